@@ -1,0 +1,142 @@
+-- The drawer and the calls on it, for every input (01, "The drawer", and numbers 13 to 18).
+--     recordAt bytes k     the bytes of record k, counted from 1
+--     badRecord bytes k    record k is bad
+--     drawerAnswer         the drawer check
+--     searchAnswer         search: number, place, die and record
+--     ownBytes             the record's own bytes, empty with a refusal
+--     filingAnswer         filing: number, place and the new count
+--     filedBytes           the drawer's bytes afterwards
+-- A drawer is its bytes and the count of records that the caller lends with them. Assumes nothing.
+use Prim.Native.Nat.{ℕ, _+_, _-_, _*_}
+use mathlib.Core.Bool.{Bool, true, false, cond, _&&_, _||_}
+use mathlib.Core.List.{List, [], _∷_, _++_}
+use lib.Dec.{eqb, leb}
+use lib.ListN.{length, take, drop}
+use Rattle.maps.specs.Least.{least, some}
+use Rattle.maps.specs.Map.{tableMap}
+use Rattle.maps.specs.Verdict.{Verdict, accepts, unless, atLeast, inOrder}
+use Rattle.labels.specs.Check.{checkAnswer}
+use Rattle.words.specs.Words.{signature}
+use Rattle.drawer.specs.Record.{Layout, Filed, Reading, good, bad, recordSize, recordBytes, filedIn, sameLayout, readRecord}
+
+-- 01: "A drawer holds 0 to 1,024 records"
+unfoldable pub mostRecords : ℕ
+mostRecords = 1024
+
+-- 01: "records count from 1"; "Records of 2,048 bytes, no header"
+unfoldable pub recordAt : List ℕ → ℕ → List ℕ
+recordAt bytes k = take recordSize (drop ((k - 1) * recordSize) bytes)
+
+unfoldable pub entryAt : List ℕ → ℕ → Filed
+entryAt bytes k = filedIn (recordAt bytes k)
+
+unfoldable pub isBad : Reading → Bool
+isBad (good f) = false
+isBad (bad f) = true
+
+unfoldable pub hasDie : ℕ → Filed → Bool
+hasDie die f = eqb (f .die) die
+
+unfoldable pub hasLayout : Layout → Filed → Bool
+hasLayout l f = sameLayout (f .layout) l
+
+-- 01: "its die number or its layout (n, m and word) stands in an earlier record"
+unfoldable pub repeats : List ℕ → ℕ → Bool
+repeats bytes k =
+    let f = entryAt bytes k in
+    some (k - 1) (λ j. hasDie (f .die) (entryAt bytes j) || hasLayout (f .layout) (entryAt bytes j))
+
+unfoldable pub badRecord : List ℕ → ℕ → Bool
+badRecord bytes k = isBad (readRecord (recordAt bytes k)) || repeats bytes k
+
+-- 13: "record count above 1,024, or its bytes exceed the lent drawer"
+unfoldable pub judgeCount : ℕ → List ℕ → Verdict
+judgeCount count bytes = unless (leb count mostRecords && leb (count * recordSize) (length bytes)) 13 0
+
+-- 14: "a bad record", the least
+unfoldable pub judgeRecords : ℕ → List ℕ → Verdict
+judgeRecords count bytes = atLeast 14 (least count (badRecord bytes))
+
+-- 01: "The drawer check gives 13, 14"
+unfoldable pub drawerAnswer : ℕ → List ℕ → Verdict
+drawerAnswer count bytes = inOrder (judgeCount count bytes ∷ judgeRecords count bytes ∷ [])
+
+-- what the reader looks for: the map's dimension, dart count and signature
+unfoldable pub layoutOf : ℕ → ℕ → List ℕ → Layout
+layoutOf n m t = record { n = n; m = m; word = signature (tableMap n m t) }
+
+-- the least record with the layout, or 0
+unfoldable pub recordOf : Layout → ℕ → List ℕ → ℕ
+recordOf l count bytes = least count (λ k. hasLayout l (entryAt bytes k))
+
+-- the least record with the die number, or 0
+unfoldable pub recordOfDie : ℕ → ℕ → List ℕ → ℕ
+recordOfDie die count bytes = least count (λ k. hasDie die (entryAt bytes k))
+
+pub record SearchAnswer : Type 0 where
+  pub number : ℕ
+  pub place : ℕ
+  pub die : ℕ
+  pub at : ℕ
+
+-- 01: "search gives 1..9, 13, 14, 15"
+unfoldable pub judgeSearch : ℕ → ℕ → List ℕ → ℕ → List ℕ → Verdict
+judgeSearch n m t count bytes =
+    inOrder
+    (checkAnswer n m t
+    ∷ drawerAnswer count bytes
+    ∷ unless (leb 1 (recordOf (layoutOf n m t) count bytes)) 15 0
+    ∷ [])
+
+-- 01: "Search answers die number and record number"
+unfoldable pub searchAnswer : ℕ → ℕ → List ℕ → ℕ → List ℕ → SearchAnswer
+searchAnswer n m t count bytes =
+    let v = judgeSearch n m t count bytes in
+    let k = recordOf (layoutOf n m t) count bytes in
+    cond (accepts v)
+    (record { number = 0; place = 0; die = entryAt bytes k .die; at = k })
+    (record { number = v .number; place = v .place; die = 0; at = 0 })
+
+-- 01: "The record's own 2,048 bytes are handed back as that part of the drawer; with a refusal the part is empty"
+unfoldable pub ownBytes : ℕ → ℕ → List ℕ → ℕ → List ℕ → List ℕ
+ownBytes n m t count bytes =
+    cond (accepts (judgeSearch n m t count bytes))
+    (recordAt bytes (recordOf (layoutOf n m t) count bytes))
+    []
+
+pub record FilingAnswer : Type 0 where
+  pub number : ℕ
+  pub place : ℕ
+  pub count : ℕ
+
+-- 01: "filing gives 1..9, 13, 14, 16, 17, 18, in these orders"
+unfoldable pub judgeFiling : ℕ → ℕ → ℕ → List ℕ → ℕ → List ℕ → Verdict
+judgeFiling die n m t count bytes =
+    inOrder
+    (checkAnswer n m t
+    ∷ drawerAnswer count bytes
+    -- 16: "die number 0 or already filed", place "0, or the record"
+    ∷ unless (leb 1 die) 16 0
+    ∷ atLeast 16 (recordOfDie die count bytes)
+    -- 17: "layout already filed"
+    ∷ atLeast 17 (recordOf (layoutOf n m t) count bytes)
+    -- 18: "count is 1,024, or the drawer has no room for one record more"
+    ∷ unless (leb (count + 1) mostRecords && leb ((count + 1) * recordSize) (length bytes)) 18 0
+    ∷ [])
+
+-- 01: "answers the new count"
+unfoldable pub filingAnswer : ℕ → ℕ → ℕ → List ℕ → ℕ → List ℕ → FilingAnswer
+filingAnswer die n m t count bytes =
+    let v = judgeFiling die n m t count bytes in
+    cond (accepts v)
+    (record { number = 0; place = 0; count = count + 1 })
+    (record { number = v .number; place = v .place; count = 0 })
+
+-- 01: "writes the next record, with the map's signature [..] and alters no other byte, beyond it included"
+unfoldable pub filedBytes : ℕ → ℕ → ℕ → List ℕ → ℕ → List ℕ → List ℕ
+filedBytes die n m t count bytes =
+    cond (accepts (judgeFiling die n m t count bytes))
+    (take (count * recordSize) bytes
+    ++ recordBytes (record { die = die; layout = layoutOf n m t })
+    ++ drop ((count + 1) * recordSize) bytes)
+    bytes

@@ -1,0 +1,4 @@
+-- Records, drawers, and the calls on them. Read in this order.
+pub mod Record
+pub mod Drawer
+pub mod Plain

@@ -1,0 +1,147 @@
+-- The drawer as a plain list of (die, layout), and runs of calls on both (01, "The drawer", its last sentence).
+--     Call, Answer     a call that is lent a drawer, and what it answers
+--     Drawer           a count and bytes, as the caller lends them
+--     drawerRun        the answers of a run of calls on a drawer, each lent what the last left
+--     plainRun         the answers of the same run on a plain list that may hold so many
+--     PlainList        from an empty drawer they are the same answers: the statement
+-- Assumes nothing.
+use Prim.Native.Nat.{ℕ, _+_, _-_, _/_, min}
+use mathlib.Core.Path.{_≡_}
+use mathlib.Core.Bool.{Bool, true, cond, _&&_}
+use mathlib.Core.List.{List, [], _∷_, _++_}
+use lib.Dec.{T, leb}
+use lib.ListN.{length, getD}
+use Rattle.maps.specs.Verdict.{Verdict, accepted, accepts, unless, atLeast, inOrder}
+use Rattle.labels.specs.Labelling.{further}
+use Rattle.labels.specs.Check.{checkAnswer}
+use Rattle.drawer.specs.Record.{Layout, Filed, recordSize, recordBytes}
+use Rattle.drawer.specs.Drawer.{mostRecords, layoutOf, hasDie, hasLayout, SearchAnswer, FilingAnswer, drawerAnswer, searchAnswer, ownBytes, judgeFiling, filingAnswer, filedBytes}
+
+-- a call that is lent a drawer: a map is n, m and a dart table, and a filing names its die first
+pub data Call : Type 0 where
+  checks : Call
+  searches : ℕ → ℕ → List ℕ → Call
+  fetches : ℕ → ℕ → List ℕ → Call
+  files : ℕ → ℕ → ℕ → List ℕ → Call
+
+pub data Answer : Type 0 where
+  checked : Verdict → Answer
+  searched : SearchAnswer → Answer
+  fetched : List ℕ → Answer
+  filed : FilingAnswer → Answer
+
+-- what a caller can hand in: a die number has 4 bytes
+unfoldable pub fits : Call → Bool
+fits checks = true
+fits (searches n m t) = true
+fits (fetches n m t) = true
+fits (files die n m t) = leb die 4294967295
+
+unfoldable pub allFit : List Call → Bool
+allFit [] = true
+allFit (c ∷ cs) = fits c && allFit cs
+
+pub record Drawer : Type 0 where
+  pub count : ℕ
+  pub bytes : List ℕ
+
+unfoldable pub drawerStep : Call → Drawer → Answer
+drawerStep checks D = checked (drawerAnswer (D .count) (D .bytes))
+drawerStep (searches n m t) D = searched (searchAnswer n m t (D .count) (D .bytes))
+drawerStep (fetches n m t) D = fetched (ownBytes n m t (D .count) (D .bytes))
+drawerStep (files die n m t) D = filed (filingAnswer die n m t (D .count) (D .bytes))
+
+-- 01: "lent the count that the last accepted filing answered (0 before any) and the bytes last left"
+unfoldable pub drawerAfter : Call → Drawer → Drawer
+drawerAfter checks D = D
+drawerAfter (searches n m t) D = D
+drawerAfter (fetches n m t) D = D
+drawerAfter (files die n m t) D =
+    record {
+      count =
+          cond (accepts (judgeFiling die n m t (D .count) (D .bytes)))
+          (filingAnswer die n m t (D .count) (D .bytes) .count)
+          (D .count);
+      bytes = filedBytes die n m t (D .count) (D .bytes);
+    }
+
+unfoldable pub drawerRun : Drawer → List Call → List Answer
+drawerRun D [] = []
+drawerRun D (c ∷ cs) = drawerStep c D ∷ drawerRun (drawerAfter c D) cs
+
+-- the plain list: the place of its first entry that passes a test, counted from 1, or 0
+unfoldable pub firstPlace : (Filed → Bool) → List Filed → ℕ
+firstPlace p [] = 0
+firstPlace p (f ∷ fs) = cond (p f) 1 (further (firstPlace p fs))
+
+unfoldable pub noEntry : Filed
+noEntry = record { die = 0; layout = record { n = 0; m = 0; word = [] } }
+
+unfoldable pub filedAt : List Filed → ℕ → Filed
+filedAt fs k = getD fs (k - 1) noEntry
+
+unfoldable pub judgePlainSearch : ℕ → ℕ → List ℕ → List Filed → Verdict
+judgePlainSearch n m t fs =
+    inOrder (checkAnswer n m t ∷ unless (leb 1 (firstPlace (hasLayout (layoutOf n m t)) fs)) 15 0 ∷ [])
+
+unfoldable pub plainSearch : ℕ → ℕ → List ℕ → List Filed → SearchAnswer
+plainSearch n m t fs =
+    let v = judgePlainSearch n m t fs in
+    let k = firstPlace (hasLayout (layoutOf n m t)) fs in
+    cond (accepts v)
+    (record { number = 0; place = 0; die = filedAt fs k .die; at = k })
+    (record { number = v .number; place = v .place; die = 0; at = 0 })
+
+unfoldable pub plainFetch : ℕ → ℕ → List ℕ → List Filed → List ℕ
+plainFetch n m t fs =
+    cond (accepts (judgePlainSearch n m t fs))
+    (recordBytes (filedAt fs (firstPlace (hasLayout (layoutOf n m t)) fs)))
+    []
+
+-- a plain list that may hold `room` entries refuses as the drawer does, and has no bytes to judge
+unfoldable pub judgePlainFiling : ℕ → ℕ → ℕ → ℕ → List ℕ → List Filed → Verdict
+judgePlainFiling room die n m t fs =
+    inOrder
+    (checkAnswer n m t
+    ∷ unless (leb 1 die) 16 0
+    ∷ atLeast 16 (firstPlace (hasDie die) fs)
+    ∷ atLeast 17 (firstPlace (hasLayout (layoutOf n m t)) fs)
+    ∷ unless (leb (length fs + 1) room) 18 0
+    ∷ [])
+
+unfoldable pub plainFiling : ℕ → ℕ → ℕ → ℕ → List ℕ → List Filed → FilingAnswer
+plainFiling room die n m t fs =
+    let v = judgePlainFiling room die n m t fs in
+    cond (accepts v)
+    (record { number = 0; place = 0; count = length fs + 1 })
+    (record { number = v .number; place = v .place; count = 0 })
+
+unfoldable pub plainStep : ℕ → Call → List Filed → Answer
+plainStep room checks fs = checked accepted
+plainStep room (searches n m t) fs = searched (plainSearch n m t fs)
+plainStep room (fetches n m t) fs = fetched (plainFetch n m t fs)
+plainStep room (files die n m t) fs = filed (plainFiling room die n m t fs)
+
+-- an accepted filing puts the layout at the list's end
+unfoldable pub plainAfter : ℕ → Call → List Filed → List Filed
+plainAfter room checks fs = fs
+plainAfter room (searches n m t) fs = fs
+plainAfter room (fetches n m t) fs = fs
+plainAfter room (files die n m t) fs =
+    cond (accepts (judgePlainFiling room die n m t fs))
+    (fs ++ (record { die = die; layout = layoutOf n m t } ∷ []))
+    fs
+
+unfoldable pub plainRun : ℕ → List Filed → List Call → List Answer
+plainRun room fs [] = []
+plainRun room fs (c ∷ cs) = plainStep room c fs ∷ plainRun room (plainAfter room c fs) cs
+
+-- how many records the lent bytes may hold
+unfoldable pub roomIn : List ℕ → ℕ
+roomIn bytes = min mostRecords (length bytes / recordSize)
+
+-- 01: "the drawer behaves as a plain list of (die, layout)", over any calls from an empty drawer
+unfoldable pub PlainList : Type 0
+PlainList =
+    (bytes : List ℕ) (calls : List Call) → T (allFit calls)
+    → drawerRun (record { count = 0; bytes = bytes }) calls ≡ plainRun (roomIn bytes) [] calls

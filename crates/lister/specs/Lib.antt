@@ -1,0 +1,2 @@
+-- The layout lister: what it prints.
+pub mod Listing

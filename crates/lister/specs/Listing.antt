@@ -1,0 +1,76 @@
+-- What the layout lister prints for its whole input, byte by byte (01, "The layout lister").
+--     decimal x          the digits of x
+--     spaced ws          words with one space between, and a newline
+--     shownFault k f     the number and place for the fault f of record k
+--     lineOf k r         the line for record k, whose bytes are r
+--     listing bytes      the whole output
+-- Bytes are ASCII. Assumes nothing.
+use Prim.Native.Nat.{ℕ, zero, suc, _+_, _/_, _%_}
+use mathlib.Core.Bool.{cond}
+use mathlib.Core.List.{List, [], _∷_, _++_}
+use lib.Dec.{eqb, ltb}
+use lib.ListN.{length, drop}
+use Rattle.maps.specs.Verdict.{Verdict, refused}
+use Rattle.words.specs.Words.{start, symmetries}
+use Rattle.drawer.specs.Record.{Filed, Fault, wrong-dimension, wrong-size, no-die, zero-byte, filling, no-map, other-word, Reading, good, bad, recordSize, filedIn, layoutMap, readTable}
+use Rattle.drawer.specs.Drawer.{recordAt}
+
+-- the last `most` digits of x, without zeros in front
+unfoldable pub digits : ℕ → ℕ → List ℕ
+digits zero x = []
+digits (suc most) x =
+    let more = digits most (x / 10) ++ ((48 + x % 10) ∷ []) in
+    cond (ltb x 10) ((48 + x) ∷ []) more
+
+-- "in decimal": a number has no more digits than it counts, and one more for 0
+unfoldable pub decimal : ℕ → List ℕ
+decimal x = digits (suc x) x
+
+-- "one space between"; "Every line, the last too, ends with a newline"
+unfoldable pub spaced : List (List ℕ) → List ℕ
+spaced [] = 10 ∷ []
+spaced (w ∷ []) = w ++ (10 ∷ [])
+spaced (w ∷ v ∷ ws) = w ++ (32 ∷ []) ++ spaced (v ∷ ws)
+
+-- the words `refused` and `short`
+unfoldable pub refusedWord : List ℕ
+refusedWord = 114 ∷ 101 ∷ 102 ∷ 117 ∷ 115 ∷ 101 ∷ 100 ∷ []
+
+unfoldable pub shortWord : List ℕ
+shortWord = 115 ∷ 104 ∷ 111 ∷ 114 ∷ 116 ∷ []
+
+-- "Order: 1, 2, then 14 (die 0, zero byte or filling wrong; place is the record, from 1), then 5 to 9"
+-- (`readTable` finds the faults in this order, and never finds `other-word`)
+unfoldable pub shownFault : ℕ → Fault → Verdict
+shownFault k wrong-dimension = refused 1 0
+shownFault k wrong-size = refused 2 0
+shownFault k no-die = refused 14 k
+shownFault k zero-byte = refused 14 k
+shownFault k filling = refused 14 k
+shownFault k (no-map v) = v
+shownFault k other-word = refused 14 k
+
+-- "die, n, m, symmetries, start dart"; "A refused record prints: die, `refused`, number, place"
+unfoldable pub lineFor : ℕ → ℕ → Reading → List ℕ
+lineFor k die (good f) =
+    let l = f .layout in
+    let M = layoutMap l in
+    spaced (decimal die ∷ decimal (l .n) ∷ decimal (l .m) ∷ decimal (symmetries M) ∷ decimal (start M) ∷ [])
+lineFor k die (bad f) =
+    let v = shownFault k f in
+    spaced (decimal die ∷ refusedWord ∷ decimal (v .number) ∷ decimal (v .place) ∷ [])
+
+unfoldable pub lineOf : ℕ → List ℕ → List ℕ
+lineOf k r = lineFor k (filedIn r .die) (readTable r)
+
+-- the lines of the first k records
+unfoldable pub linesTo : ℕ → List ℕ → List ℕ
+linesTo zero bytes = []
+linesTo (suc k) bytes = linesTo k bytes ++ lineOf (suc k) (recordAt bytes (suc k))
+
+-- "A short end of k bytes prints `short k`"
+unfoldable pub shortEnd : ℕ → List ℕ
+shortEnd k = cond (eqb k 0) [] (spaced (shortWord ∷ decimal k ∷ []))
+
+unfoldable pub listing : List ℕ → List ℕ
+listing bytes = linesTo (length bytes / recordSize) bytes ++ shortEnd (length bytes % recordSize)

@@ -1,0 +1,2 @@
+-- The laws of `specs/`, for this crate's proofs and those of the crates that link it.
+pub mod Opened

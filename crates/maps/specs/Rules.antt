@@ -1,0 +1,91 @@
+-- The rules of one map, in the order of their numbers (01, "Numbers the display can show", 1 to 8).
+--     Rule            a number, and which entries of the table break it
+--     rules           5, 6, 7 and 8
+--     wrongEntry      the place in the table of the least entry that breaks a rule, or 0
+--     shownPlace      what the display shows of a wrong entry: its dart
+--     judgedBy        a rule's verdict on a map
+-- An entry is βi(d): d is its dart, i its sewing. Rule 9 is `labels`'. Assumes nothing.
+use Prim.Native.Nat.{ℕ, _+_, _-_, _*_, _/_, _%_}
+use mathlib.Core.Bool.{Bool, not, cond, _&&_}
+use mathlib.Core.List.{List, [], _∷_, map}
+use lib.Dec.{eqb, leb, ltb}
+use lib.ListN.{length}
+use Rattle.maps.specs.Least.{least, some}
+use Rattle.maps.specs.Map.{Map, sew}
+use Rattle.maps.specs.Verdict.{Verdict, accepted, unless, refused}
+
+-- 1: "n outside 1..4"
+unfoldable pub judgeDimension : ℕ → Verdict
+judgeDimension n = unless (leb 1 n && leb n 4) 1 0
+
+-- 2: "m = 0 or n·m > 1,020"
+unfoldable pub judgeSize : ℕ → ℕ → Verdict
+judgeSize n m = unless (leb 1 m && leb (n * m) 1020) 2 0
+
+-- 3: "table length is not n·m"
+unfoldable pub judgeLength : ℕ → ℕ → List ℕ → Verdict
+judgeLength n m t = unless (eqb (length t) (n * m)) 3 0
+
+-- 4: "output shorter than" what is written
+unfoldable pub judgeRoom : ℕ → ℕ → Verdict
+judgeRoom needed room = unless (leb needed room) 4 0
+
+-- a rule is judged by the entry that breaks it
+pub record Rule : Type 0 where
+  pub number : ℕ
+  pub broken : Map → ℕ → ℕ → Bool
+
+-- 5: "an entry exceeds m"
+unfoldable pub exceeds : Map → ℕ → ℕ → Bool
+exceeds M d i = ltb (M .darts) (sew M i d)
+
+-- 6: "β1 gives a dart that a lower dart's β1 gives"
+unfoldable pub givenBefore : Map → ℕ → ℕ → Bool
+givenBefore M d i = eqb i 1 && ltb 0 (sew M 1 d) && some (d - 1) (λ e. eqb (sew M 1 e) (sew M 1 d))
+
+-- 7: "βi, i ≥ 2, fails the rule above": βi(d) = e is not 0, and βi(e) is not d
+unfoldable pub unanswered : Map → ℕ → ℕ → Bool
+unanswered M d i = leb 2 i && ltb 0 (sew M i d) && not (eqb (sew M i (sew M i d)) d)
+
+-- e = βi(βj(d)) is not 0, and βi(βj(e)) is not d
+unfoldable pub parted : Map → ℕ → ℕ → ℕ → Bool
+parted M i j d =
+    let e = sew M i (sew M j d) in
+    ltb 0 e && not (eqb (sew M i (sew M j e)) d)
+
+-- 8: "a composition fails": one with j, for some i from 1 to j−2
+unfoldable pub composesWrong : Map → ℕ → ℕ → Bool
+composesWrong M d j = some (j - 2) (λ i. parted M i j d)
+
+-- the rules of the table's entries, in the order of their numbers
+unfoldable pub rules : List Rule
+rules =
+    record { number = 5; broken = exceeds }
+    ∷ record { number = 6; broken = givenBefore }
+    ∷ record { number = 7; broken = unanswered }
+    ∷ record { number = 8; broken = composesWrong }
+    ∷ []
+
+-- the dart and the sewing of the entry at place p, counted from 1, in a table of dimension n: `placeOf` turned round
+unfoldable pub dartAt : ℕ → ℕ → ℕ
+dartAt n p = (p - 1) / n + 1
+
+unfoldable pub sewingAt : ℕ → ℕ → ℕ
+sewingAt n p = (p - 1) % n + 1
+
+-- the place in the table of the least entry that breaks the rule, or 0 where none does
+unfoldable pub wrongEntry : Map → Rule → ℕ
+wrongEntry M r = least (M .dim * M .darts) (λ p. r .broken M (dartAt (M .dim) p) (sewingAt (M .dim) p))
+
+-- 01, column "Place": of a wrong entry the display shows the dart
+unfoldable pub shownPlace : Map → ℕ → ℕ
+shownPlace M p = dartAt (M .dim) p
+
+unfoldable pub judgedBy : Map → Rule → Verdict
+judgedBy M r =
+    let p = wrongEntry M r in
+    unless (eqb p 0) (r .number) (shownPlace M p)
+
+-- 5 to 8, in order
+unfoldable pub judgeEntries : Map → List Verdict
+judgeEntries M = map (judgedBy M) rules

@@ -1,0 +1,3 @@
+-- Words, the signature, and what the signature call answers. Read in this order.
+pub mod Words
+pub mod Sign

@@ -1,0 +1,45 @@
+-- What the signature call answers and what it leaves in its output, for every input (01, "Numbers the display can show").
+--     SignatureAnswer     number, place, start and symmetries, as the display shows them
+--     signatureAnswer     the answer, of n, m, the table and the output's length
+--     signatureOutput     the output's contents afterwards
+--     over w out          out with w in its first places: nothing beyond is written
+-- Assumes nothing.
+use Prim.Native.Nat.{ℕ, _*_}
+use mathlib.Core.Bool.{cond}
+use mathlib.Core.List.{List, [], _∷_, _++_}
+use lib.ListN.{length, drop}
+use Rattle.maps.specs.Map.{tableMap}
+use Rattle.maps.specs.Verdict.{Verdict, accepts}
+use Rattle.maps.specs.Rules.{judgeRoom}
+use Rattle.labels.specs.Check.{judgeTable}
+use Rattle.words.specs.Words.{signature, start, symmetries}
+
+pub record SignatureAnswer : Type 0 where
+  pub number : ℕ
+  pub place : ℕ
+  pub start : ℕ
+  pub symmetries : ℕ
+
+-- 4: "output shorter than n·m (signature)"
+unfoldable pub judgeSignature : ℕ → ℕ → List ℕ → ℕ → Verdict
+judgeSignature n m t room = judgeTable n m t (judgeRoom (n * m) room ∷ [])
+
+-- 01: "All other numbers in a refused answer are 0"
+unfoldable pub signatureAnswer : ℕ → ℕ → List ℕ → ℕ → SignatureAnswer
+signatureAnswer n m t room =
+    let v = judgeSignature n m t room in
+    let M = tableMap n m t in
+    cond (accepts v)
+    (record { number = 0; place = 0; start = start M; symmetries = symmetries M })
+    (record { number = v .number; place = v .place; start = 0; symmetries = 0 })
+
+-- 01: "writes the first [..] numbers of its output and nothing beyond"
+unfoldable pub over : List ℕ → List ℕ → List ℕ
+over w out = w ++ drop (length w) out
+
+-- 01: "Every refusal leaves all lent buffers with the contents they had"
+unfoldable pub signatureOutput : ℕ → ℕ → List ℕ → List ℕ → List ℕ
+signatureOutput n m t out =
+    cond (accepts (judgeSignature n m t (length out)))
+    (over (signature (tableMap n m t)) out)
+    out

@@ -1,0 +1,383 @@
+// Cases of the drawer check, search, the record handed back and filing.
+#include <inttypes.h>
+#include <stdio.h>
+
+#include "generate.h"
+#include "generate_drawers.h"
+
+static void print_lent(const struct drawer *drawer) {
+  printf(" %" PRIu64, drawer->count);
+  print_bytes(drawer->bytes, drawer->length);
+  printf("\n");
+}
+
+static void print_drawer(const struct drawer *drawer) {
+  printf("drawer");
+  print_lent(drawer);
+}
+
+static void print_find(const struct map *map, const struct drawer *drawer) {
+  printf("find");
+  print_map(map);
+  print_lent(drawer);
+}
+
+static void print_record(const struct map *map, const struct drawer *drawer) {
+  printf("record");
+  print_map(map);
+  print_lent(drawer);
+}
+
+static void print_add(uint32_t die, const struct map *map, const struct drawer *drawer) {
+  printf("add %" PRIu32, die);
+  print_map(map);
+  print_lent(drawer);
+}
+
+// One call on the drawer, by turns.
+static void print_call(uint64_t turn, uint32_t die, const struct map *map,
+                       const struct drawer *drawer) {
+  switch (turn % 4) {
+  case 0:
+    print_drawer(drawer);
+    break;
+  case 1:
+    print_find(map, drawer);
+    break;
+  case 2:
+    print_record(map, drawer);
+    break;
+  default:
+    print_add(die, map, drawer);
+  }
+}
+
+static size_t any_spare(struct chance *chance) {
+  static const size_t spares[] = {
+      0, 1, RECORD_BYTES - 1, RECORD_BYTES, RECORD_BYTES + 5, 2 * RECORD_BYTES};
+  return spares[chance_below(chance, sizeof spares / sizeof spares[0])];
+}
+
+static struct drawer any_good_drawer(struct chance *chance, uint64_t least) {
+  uint64_t most = chance_one_in(chance, 4) ? 12 : 5;
+  uint64_t count = least + chance_below(chance, most - least + 1);
+  size_t spare = any_spare(chance);
+  return good_drawer(chance, count, spare, chance_one_in(chance, 2));
+}
+
+// The layout of a record under other dart numbers.
+static struct map filed_map(struct chance *chance, const struct drawer *drawer, uint64_t record) {
+  struct map map = record_map(drawer_record(drawer, record));
+  return map_shuffled(chance, &map);
+}
+
+static void print_good(struct chance *chance, uint64_t cases) {
+  printf("# good drawers: filed and unfiled layouts\n");
+  for (uint64_t k = 0; k < cases;) {
+    struct drawer drawer = any_good_drawer(chance, k == 0 ? 0 : 1);
+    struct map unfiled = unfiled_map(chance, &drawer);
+    struct map filed = unfiled;
+    if (drawer.count > 0) {
+      filed = filed_map(chance, &drawer, 1 + chance_below(chance, drawer.count));
+    }
+    uint32_t die = unfiled_die(chance, &drawer);
+    // The four calls with one layout, then search and the record with the other.
+    for (uint64_t turn = 0; turn < 6 && k < cases; turn++, k++) {
+      const struct map *map = turn < 3 ? &filed : &unfiled;
+      print_call(turn < 4 ? turn : turn - 3, die, map, &drawer);
+    }
+    drawer_free(&drawer);
+  }
+}
+
+// Records behind the count are bytes like any others: not found, not compared, written over.
+static void print_behind_count(struct chance *chance, uint64_t cases) {
+  printf("# good drawers with filed records behind the count\n");
+  for (uint64_t k = 0; k < cases;) {
+    struct drawer drawer = any_good_drawer(chance, 2);
+    uint64_t behind = drawer.count;
+    struct map map = filed_map(chance, &drawer, behind);
+    uint32_t die = record_die(drawer_record(&drawer, behind));
+    drawer.count = chance_below(chance, behind);
+    for (uint64_t turn = 0; turn < 4 && k < cases; turn++, k++) {
+      print_call(turn, die, &map, &drawer);
+    }
+    drawer_free(&drawer);
+  }
+}
+
+// A drawer with one bad record, and the map of a layout that was filed before or behind it.
+static struct drawer spoiled_drawer(struct chance *chance, enum spoil spoil, struct map *wanted) {
+  for (;;) {
+    struct drawer drawer = any_good_drawer(chance, 2);
+    uint64_t bad = 1 + chance_below(chance, drawer.count);
+    uint64_t hit = 1 + chance_below(chance, drawer.count);
+    *wanted = filed_map(chance, &drawer, hit);
+    if (spoil_record(chance, &drawer, bad, spoil)) {
+      printf("# record %" PRIu64 " of %" PRIu64 " spoiled: %s; the layout was in record %" PRIu64
+             "\n",
+             bad, drawer.count, spoil_name(spoil), hit);
+      return drawer;
+    }
+    drawer_free(&drawer);
+  }
+}
+
+static void spoil_some_other(struct chance *chance, struct drawer *drawer) {
+  uint64_t record = 1 + chance_below(chance, drawer->count);
+  put_die(drawer_record(drawer, record), 0);
+  printf("# and record %" PRIu64 " spoiled: die 0\n", record);
+}
+
+static void print_spoiled(struct chance *chance, uint64_t cases) {
+  uint64_t spoil = chance_below(chance, SPOIL_COUNT);
+  for (uint64_t k = 0; k < cases; spoil++) {
+    struct map wanted;
+    struct drawer drawer = spoiled_drawer(chance, spoil % SPOIL_COUNT, &wanted);
+    if (chance_one_in(chance, 5)) {
+      spoil_some_other(chance, &drawer);
+    }
+    uint32_t die = chance_one_in(chance, 3) ? 0 : unfiled_die(chance, &drawer);
+    for (uint64_t turn = 0; turn < 4 && k < cases; turn++, k++) {
+      print_call(turn, die, &wanted, &drawer);
+    }
+    drawer_free(&drawer);
+  }
+}
+
+// Counts that narrow numbers would take for the true one are among these, and counts whose bytes
+// would wrap to nothing or to one record.
+static uint64_t bad_count(uint64_t turn, const struct drawer *drawer) {
+  const uint64_t bad[] = {
+      drawer->length / RECORD_BYTES + 1,
+      MOST_RECORDS + 1,
+      (uint64_t)1 << 53,
+      ((uint64_t)1 << 53) + 1,
+      UINT64_MAX,
+      drawer->count + ((uint64_t)1 << 32),
+      drawer->count + 65536,
+      ((uint64_t)1 << 63) + drawer->count,
+      MOST_RECORDS,
+      UINT64_MAX / RECORD_BYTES,
+      ((uint64_t)1 << 21) + drawer->count,
+  };
+  return bad[turn % (sizeof bad / sizeof bad[0])];
+}
+
+static void print_bad_counts(struct chance *chance, uint64_t cases) {
+  printf("# counts that are above 1,024 or want more bytes than are lent\n");
+  uint64_t which = chance_below(chance, 11);
+  for (uint64_t k = 0; k < cases; which++) {
+    struct drawer drawer = any_good_drawer(chance, 1);
+    struct map map = filed_map(chance, &drawer, 1);
+    if (chance_one_in(chance, 3)) {
+      spoil_record(chance, &drawer, drawer.count, SPOIL_ZERO_BYTE);
+    }
+    if (chance_one_in(chance, 4)) {
+      // One byte less than the counted records have.
+      drawer.length = drawer.count * RECORD_BYTES - 1;
+    } else {
+      drawer.count = bad_count(which, &drawer);
+    }
+    uint32_t die = (uint32_t)chance_below(chance, 3);
+    for (uint64_t turn = 0; turn < 4 && k < cases; turn++, k++) {
+      print_call(turn, die, &map, &drawer);
+    }
+    drawer_free(&drawer);
+  }
+}
+
+// The map is judged before the drawer, so the drawer is good, bad or wrongly counted.
+static void print_refused_maps(struct chance *chance, uint64_t cases) {
+  printf("# the map refused\n");
+  uint64_t which = chance_below(chance, TABLE_REFUSALS);
+  for (uint64_t k = 0; k < cases; which++) {
+    struct drawer drawer = any_good_drawer(chance, 1);
+    struct map map = refused_map(chance, table_refusals[which % TABLE_REFUSALS], 60);
+    if (chance_one_in(chance, 4)) {
+      spoil_record(chance, &drawer, 1, SPOIL_DIE_ZERO);
+    } else if (chance_one_in(chance, 4)) {
+      drawer.count = UINT64_MAX;
+    }
+    uint32_t die = (uint32_t)chance_below(chance, 3);
+    // Filing and search by turns, the record of a refused map now and then.
+    static const uint64_t turns[] = {3, 1, 3, 1, 2};
+    for (uint64_t call = 0; call < 2 && k < cases; call++, k++) {
+      print_call(turns[k % 5], die, &map, &drawer);
+    }
+    drawer_free(&drawer);
+  }
+}
+
+// Which die and layout are to be filed, and how much room there is.
+struct filing {
+  const char *comment;
+  bool die_zero;
+  bool die_filed;
+  bool layout_filed;
+  bool empty;
+  bool spoiled;
+  size_t spare;
+};
+
+enum { WITH_ROOM = RECORD_BYTES, NO_ROOM = 0, NEARLY_ROOM = RECORD_BYTES - 1 };
+
+static const struct filing filings[] = {
+    {"die 0", true, false, false, false, false, WITH_ROOM},
+    {"die filed", false, true, false, false, false, WITH_ROOM},
+    {"layout filed under another die and numbering", false, false, true, false, false, WITH_ROOM},
+    {"die filed and layout filed", false, true, true, false, false, 2 * WITH_ROOM + 9},
+    {"die 0 and layout filed", true, false, true, false, false, WITH_ROOM},
+    {"no room", false, false, false, false, false, NO_ROOM},
+    {"one byte less than room", false, false, false, false, false, NEARLY_ROOM},
+    {"no room, die 0", true, false, false, false, false, NO_ROOM},
+    {"no room, die filed", false, true, false, false, false, NO_ROOM},
+    {"no room, layout filed", false, false, true, false, false, NEARLY_ROOM},
+    {"no room, a bad record", false, false, false, false, true, NO_ROOM},
+    {"empty, no bytes at all", false, false, false, true, false, NO_ROOM},
+    {"empty, one byte less than room", false, false, false, true, false, NEARLY_ROOM},
+    {"empty, exactly room", false, false, false, true, false, WITH_ROOM},
+    {"empty, more than room", false, false, false, true, false, WITH_ROOM + 700},
+    {"exactly room", false, false, false, false, false, WITH_ROOM},
+    {"more than room", false, false, false, false, false, 2 * WITH_ROOM + 1},
+};
+
+static void print_filing(struct chance *chance, const struct filing *filing) {
+  uint64_t count = filing->empty ? 0 : 2 + chance_below(chance, 6);
+  struct drawer drawer = good_drawer(chance, count, filing->spare, chance_one_in(chance, 2));
+  struct map map = unfiled_map(chance, &drawer);
+  uint32_t die = unfiled_die(chance, &drawer);
+  uint64_t record = filing->empty ? 0 : 1 + chance_below(chance, count);
+  if (filing->layout_filed) {
+    map = filed_map(chance, &drawer, record);
+  }
+  if (filing->die_filed) {
+    // Another record than the one with the layout.
+    die = record_die(drawer_record(&drawer, record % count + 1));
+  }
+  if (filing->spoiled) {
+    spoil_record(chance, &drawer, record, SPOIL_ZERO_BYTE);
+  }
+  printf("# filing: %s\n", filing->comment);
+  print_add(filing->die_zero ? 0 : die, &map, &drawer);
+  drawer_free(&drawer);
+}
+
+static void print_filings(struct chance *chance, uint64_t cases) {
+  uint64_t which = chance_below(chance, sizeof filings / sizeof filings[0]);
+  for (uint64_t k = 0; k < cases; k++) {
+    print_filing(chance, &filings[(which + k) % (sizeof filings / sizeof filings[0])]);
+  }
+}
+
+// Behind the 1,024 records there are the bytes of one more, so it is not room that is lacking.
+static void print_full(struct chance *chance, struct drawer *drawer, uint64_t turn) {
+  struct map unfiled = unfiled_map(chance, drawer);
+  struct map last = filed_map(chance, drawer, MOST_RECORDS);
+  uint32_t last_die = record_die(drawer_record(drawer, MOST_RECORDS));
+  uint32_t new_die = unfiled_die(chance, drawer);
+  switch (turn % 10) {
+  case 0:
+    print_add(new_die, &unfiled, drawer);
+    break;
+  case 1:
+    drawer->count = MOST_RECORDS - 1;
+    print_add(new_die, &unfiled, drawer);
+    break;
+  case 2:
+    print_add(last_die, &unfiled, drawer);
+    break;
+  case 3:
+    print_add(new_die, &last, drawer);
+    break;
+  case 4:
+    print_find(&last, drawer);
+    break;
+  case 5:
+    drawer->count = MOST_RECORDS + 1;
+    print_drawer(drawer);
+    break;
+  case 6:
+    print_drawer(drawer);
+    break;
+  case 7:
+    print_record(&last, drawer);
+    break;
+  case 8:
+    drawer->count = MOST_RECORDS - 1;
+    print_find(&last, drawer);
+    break;
+  default:
+    put_die(drawer_record(drawer, MOST_RECORDS), record_die(drawer_record(drawer, 1)));
+    print_drawer(drawer);
+    put_die(drawer_record(drawer, MOST_RECORDS), last_die);
+  }
+  drawer->count = MOST_RECORDS;
+}
+
+// These lines are long, so of very many only twenty are full drawers.
+static void print_fulls(struct chance *chance, uint64_t cases) {
+  if (cases > 20) {
+    print_filings(chance, cases - 20);
+    cases = 20;
+  }
+  if (cases == 0) {
+    return;
+  }
+  printf("# full drawers of 1,024 records, one more record behind them\n");
+  struct drawer drawer = packed_drawer(chance, MOST_RECORDS, RECORD_BYTES);
+  struct map map = unfiled_map(chance, &drawer);
+  put_record(drawer_record(&drawer, MOST_RECORDS + 1), unfiled_die(chance, &drawer), &map);
+  for (uint64_t k = 0; k < cases; k++) {
+    print_full(chance, &drawer, k);
+  }
+  drawer_free(&drawer);
+}
+
+// Calls one after another from an empty drawer, each lent what the last accepted filing left.
+static void print_history(struct chance *chance, uint64_t cases) {
+  printf("# filings and searches one after another from an empty drawer\n");
+  struct drawer drawer = good_drawer(chance, 0, 7 * RECORD_BYTES + 99, true);
+  for (uint64_t k = 0; k < cases; k++) {
+    struct map map = unfiled_map(chance, &drawer);
+    uint32_t die = unfiled_die(chance, &drawer);
+    if (drawer.count > 0 && chance_one_in(chance, 4)) {
+      map = filed_map(chance, &drawer, 1 + chance_below(chance, drawer.count));
+    }
+    if (drawer.count > 0 && chance_one_in(chance, 6)) {
+      die = record_die(drawer_record(&drawer, 1 + chance_below(chance, drawer.count)));
+    }
+    if (chance_one_in(chance, 4)) {
+      print_find(&map, &drawer);
+      continue;
+    }
+    print_add(die, &map, &drawer);
+    struct second_filed filed =
+        second_add(die, map_lent(&map), drawer.count, drawer.bytes, drawer.length);
+    if (filed.number == 0) {
+      drawer.count = filed.count;
+    }
+  }
+  drawer_free(&drawer);
+}
+
+struct drawer_group {
+  uint64_t weight;
+  void (*print)(struct chance *chance, uint64_t cases);
+};
+
+static const struct drawer_group drawer_groups[] = {
+    {24, print_good},         {8, print_behind_count}, {60, print_spoiled}, {22, print_bad_counts},
+    {34, print_refused_maps}, {26, print_filings},     {16, print_history}, {10, print_fulls},
+};
+
+enum { DRAWER_TOTAL = 24 + 8 + 60 + 22 + 34 + 26 + 16 + 10 };
+
+void print_drawer_cases(struct chance *chance, uint64_t count) {
+  uint64_t before = 0;
+  for (size_t group = 0; group < sizeof drawer_groups / sizeof drawer_groups[0]; group++) {
+    uint64_t weight = drawer_groups[group].weight;
+    drawer_groups[group].print(chance, share(count, before, weight, DRAWER_TOTAL));
+    before += weight;
+  }
+}

@@ -1,0 +1,322 @@
+// Builds drawers record by record and spoils single records.
+#include "generate_drawers.h"
+
+#include <stdio.h>
+#include <stdlib.h>
+#include <string.h>
+
+static void put_16(uint8_t *at, uint16_t number) {
+  at[0] = (uint8_t)(number & 255);
+  at[1] = (uint8_t)(number >> 8);
+}
+
+static uint16_t get_16(const uint8_t *at) {
+  return (uint16_t)(at[0] | at[1] << 8);
+}
+
+void put_die(uint8_t *record, uint32_t die) {
+  put_16(record, (uint16_t)(die & 65535));
+  put_16(record + 2, (uint16_t)(die >> 16));
+}
+
+uint32_t record_die(const uint8_t *record) {
+  return get_16(record) | (uint32_t)get_16(record + 2) << 16;
+}
+
+void put_record(uint8_t *record, uint32_t die, const struct map *map) {
+  memset(record, 0, RECORD_BYTES);
+  put_die(record, die);
+  record[RECORD_N_AT] = (uint8_t)map->n;
+  put_16(record + RECORD_M_AT, (uint16_t)map->m);
+  for (size_t at = 0; at < map->length && at < MOST_ENTRIES; at++) {
+    put_16(record + RECORD_WORD_AT + 2 * at, map->table[at]);
+  }
+}
+
+struct map record_map(const uint8_t *record) {
+  struct map map = map_empty(record[RECORD_N_AT], get_16(record + RECORD_M_AT));
+  for (size_t at = 0; at < map.length && at < MOST_ENTRIES; at++) {
+    map.table[at] = get_16(record + RECORD_WORD_AT + 2 * at);
+  }
+  return map;
+}
+
+uint8_t *drawer_record(const struct drawer *drawer, uint64_t record) {
+  return drawer->bytes + (record - 1) * RECORD_BYTES;
+}
+
+static void fail(const char *what, unsigned number) {
+  fprintf(stderr, "generate: %s gives %u\n", what, number);
+  exit(3);
+}
+
+// One byte more than asked for, since no bytes at all may come back as no memory.
+static struct drawer blank_drawer(struct chance *chance, size_t length, bool garbage) {
+  struct drawer drawer = {.count = 0, .length = length, .bytes = calloc(length + 1, 1)};
+  if (drawer.bytes == NULL) {
+    fputs("generate: no memory\n", stderr);
+    exit(3);
+  }
+  for (size_t at = 0; garbage && at < length; at++) {
+    drawer.bytes[at] = (uint8_t)chance_next(chance);
+  }
+  return drawer;
+}
+
+void drawer_free(struct drawer *drawer) {
+  free(drawer->bytes);
+  drawer->bytes = NULL;
+}
+
+// Dies are small, or fill all four bytes, or are the largest.
+static uint32_t any_die(struct chance *chance) {
+  if (chance_one_in(chance, 16)) {
+    return UINT32_MAX;
+  }
+  uint64_t bound = chance_one_in(chance, 2) ? 600 : UINT32_MAX;
+  return (uint32_t)(1 + chance_below(chance, bound));
+}
+
+// Maps whose words share their numbers, or differ only in zeros at the end, and have another n.
+static struct map alike_map(struct chance *chance) {
+  uint64_t n = 1 + chance_below(chance, 4);
+  if (n == 1 && chance_one_in(chance, 2)) {
+    struct map two_in_a_row = map_empty(1, 2);
+    two_in_a_row.table[1] = 1;
+    return two_in_a_row;
+  }
+  struct map one_dart = map_empty(n, 1);
+  uint64_t sewn = chance_below(chance, 3);
+  if (sewn < n) {
+    one_dart.table[sewn] = 1;
+  }
+  return one_dart;
+}
+
+static struct map any_filed_map(struct chance *chance) {
+  if (chance_one_in(chance, 4)) {
+    return alike_map(chance);
+  }
+  return any_accepted_map(chance, chance_one_in(chance, 10) ? MOST_ENTRIES : 40);
+}
+
+struct drawer good_drawer(struct chance *chance, uint64_t count, size_t spare, bool garbage) {
+  struct drawer drawer = blank_drawer(chance, count * RECORD_BYTES + spare, garbage);
+  while (drawer.count < count) {
+    struct map map = any_filed_map(chance);
+    struct second_filed filed =
+        second_add(any_die(chance), map_lent(&map), drawer.count, drawer.bytes, drawer.length);
+    if (filed.number == 0) {
+      drawer.count = filed.count;
+    } else if (filed.number != 16 && filed.number != 17) {
+      fail("filing in a good drawer", filed.number);
+    }
+  }
+  return drawer;
+}
+
+static bool layout_stands(const struct drawer *drawer, const uint8_t *record) {
+  for (uint64_t other = 1; other <= drawer->count; other++) {
+    if (memcmp(drawer_record(drawer, other) + RECORD_N_AT, record + RECORD_N_AT,
+               RECORD_BYTES - RECORD_N_AT) == 0) {
+      return true;
+    }
+  }
+  return false;
+}
+
+static struct map signature_of(const struct map *map) {
+  struct map word = map_empty(map->n, map->m);
+  struct second_signed answer = second_sign(map_lent(map), word.table, word.length);
+  if (answer.number != 0) {
+    fail("the signature of an accepted map", answer.number);
+  }
+  return word;
+}
+
+// Maps of five to seven darts are many enough to fill a drawer and short to print.
+struct drawer packed_drawer(struct chance *chance, uint64_t count, size_t spare) {
+  struct drawer drawer = blank_drawer(chance, count * RECORD_BYTES + spare, false);
+  while (drawer.count < count) {
+    struct map map = accepted_map(chance, 2, 5 + chance_below(chance, 3));
+    struct map word = signature_of(&map);
+    uint8_t record[RECORD_BYTES];
+    put_record(record, (uint32_t)(3 * drawer.count + 7), &word);
+    if (!layout_stands(&drawer, record)) {
+      drawer.count++;
+      memcpy(drawer_record(&drawer, drawer.count), record, RECORD_BYTES);
+    }
+  }
+  unsigned number = second_drawer(drawer.count, drawer.bytes, drawer.length).number;
+  if (number != 0) {
+    fail("a packed drawer", number);
+  }
+  return drawer;
+}
+
+struct map unfiled_map(struct chance *chance, const struct drawer *drawer) {
+  for (;;) {
+    struct map map = any_filed_map(chance);
+    struct map word = signature_of(&map);
+    uint8_t record[RECORD_BYTES];
+    put_record(record, 1, &word);
+    if (!layout_stands(drawer, record)) {
+      return map;
+    }
+  }
+}
+
+static bool die_stands(const struct drawer *drawer, uint32_t die) {
+  for (uint64_t record = 1; record <= drawer->count; record++) {
+    if (record_die(drawer_record(drawer, record)) == die) {
+      return true;
+    }
+  }
+  return false;
+}
+
+uint32_t unfiled_die(struct chance *chance, const struct drawer *drawer) {
+  uint32_t die = any_die(chance);
+  while (die_stands(drawer, die)) {
+    die = any_die(chance);
+  }
+  return die;
+}
+
+const char *spoil_name(enum spoil spoil) {
+  static const char *const names[SPOIL_COUNT] = {
+      "die 0",
+      "n out of bounds",
+      "m of 0",
+      "m too large",
+      "zero byte set",
+      "first filling byte set",
+      "last filling byte set",
+      "some filling byte set",
+      "word not accepted",
+      "word accepted but not its own signature",
+      "word read with another n or m",
+      "die repeated",
+      "layout repeated",
+  };
+  return names[spoil];
+}
+
+static uint8_t any_nonzero_byte(struct chance *chance) {
+  return (uint8_t)(1 + chance_below(chance, 255));
+}
+
+// A word of 1,020 numbers leaves no filling; then nothing is set.
+static void spoil_filling(struct chance *chance, uint8_t *record, enum spoil spoil) {
+  size_t filling_at = RECORD_WORD_AT + 2 * record_map(record).length;
+  if (filling_at < RECORD_BYTES) {
+    size_t at = filling_at + (size_t)chance_below(chance, RECORD_BYTES - filling_at);
+    if (spoil == SPOIL_FIRST_FILLING) {
+      at = filling_at;
+    } else if (spoil == SPOIL_LAST_FILLING) {
+      at = RECORD_BYTES - 1;
+    }
+    record[at] = any_nonzero_byte(chance);
+  }
+}
+
+static void spoil_word(struct chance *chance, uint8_t *record, enum spoil spoil) {
+  struct map map = record_map(record);
+  if (spoil == SPOIL_WORD_REFUSED) {
+    map = refused_map(chance, 5 + (unsigned)chance_below(chance, 5), 60);
+  } else {
+    map = map_shuffled(chance, &map);
+  }
+  put_record(record, record_die(record), &map);
+}
+
+static void spoil_sizes(struct chance *chance, uint8_t *record) {
+  uint64_t entries = record_map(record).length;
+  if (chance_one_in(chance, 2)) {
+    put_16(record + RECORD_M_AT,
+           (uint16_t)(get_16(record + RECORD_M_AT) + (chance_one_in(chance, 2) ? 1 : -1)));
+    return;
+  }
+  uint64_t n = 1 + chance_below(chance, 4);
+  if (entries % n == 0) {
+    record[RECORD_N_AT] = (uint8_t)n;
+    put_16(record + RECORD_M_AT, (uint16_t)(entries / n));
+  }
+}
+
+static void spoil_head(struct chance *chance, uint8_t *record, enum spoil spoil) {
+  static const uint8_t wrong_n[] = {0, 5, 255, 6, 128};
+  uint64_t n = record[RECORD_N_AT];
+  switch (spoil) {
+  case SPOIL_DIE_ZERO:
+    put_die(record, 0);
+    break;
+  case SPOIL_N_OUT_OF_BOUNDS:
+    record[RECORD_N_AT] = wrong_n[chance_below(chance, sizeof wrong_n)];
+    break;
+  case SPOIL_M_ZERO:
+    put_16(record + RECORD_M_AT, 0);
+    break;
+  case SPOIL_M_TOO_LARGE:
+    put_16(record + RECORD_M_AT,
+           chance_one_in(chance, 2) ? UINT16_MAX : (uint16_t)(MOST_ENTRIES / n + 1));
+    break;
+  default:
+    record[RECORD_ZERO_AT] = any_nonzero_byte(chance);
+  }
+}
+
+// Copies the die or the layout of an earlier record.
+static void spoil_by_repeating(struct chance *chance, const struct drawer *drawer, uint64_t record,
+                               enum spoil spoil) {
+  if (record < 2) {
+    return;
+  }
+  uint8_t *own = drawer_record(drawer, record);
+  const uint8_t *earlier = drawer_record(drawer, 1 + chance_below(chance, record - 1));
+  if (spoil == SPOIL_DIE_REPEATED) {
+    put_die(own, record_die(earlier));
+  } else {
+    memcpy(own + RECORD_N_AT, earlier + RECORD_N_AT, RECORD_BYTES - RECORD_N_AT);
+  }
+}
+
+static void spoil_once(struct chance *chance, struct drawer *drawer, uint64_t record,
+                       enum spoil spoil) {
+  uint8_t *own = drawer_record(drawer, record);
+  switch (spoil) {
+  case SPOIL_FIRST_FILLING:
+  case SPOIL_LAST_FILLING:
+  case SPOIL_SOME_FILLING:
+    spoil_filling(chance, own, spoil);
+    break;
+  case SPOIL_WORD_REFUSED:
+  case SPOIL_WORD_RENUMBERED:
+    spoil_word(chance, own, spoil);
+    break;
+  case SPOIL_SIZES:
+    spoil_sizes(chance, own);
+    break;
+  case SPOIL_DIE_REPEATED:
+  case SPOIL_LAYOUT_REPEATED:
+    spoil_by_repeating(chance, drawer, record, spoil);
+    break;
+  default:
+    spoil_head(chance, own, spoil);
+  }
+}
+
+bool spoil_record(struct chance *chance, struct drawer *drawer, uint64_t record, enum spoil spoil) {
+  uint8_t kept[RECORD_BYTES];
+  uint8_t *own = drawer_record(drawer, record);
+  memcpy(kept, own, RECORD_BYTES);
+  for (int tries = 0; tries < 20; tries++) {
+    spoil_once(chance, drawer, record, spoil);
+    struct second_verdict verdict = second_drawer(record, drawer->bytes, drawer->length);
+    if (verdict.number == 14) {
+      return true;
+    }
+    memcpy(own, kept, RECORD_BYTES);
+  }
+  return false;
+}

@@ -1,0 +1,59 @@
+// Drawers and single records as test input: good ones, and ones with a fault put in.
+#ifndef GENERATE_DRAWERS_H
+#define GENERATE_DRAWERS_H
+
+#include "generate_maps.h"
+
+enum { RECORD_BYTES = 2048, MOST_RECORDS = 1024 };
+
+// Where the parts of a record stand; the die number is in front.
+enum { RECORD_N_AT = 4, RECORD_ZERO_AT = 5, RECORD_M_AT = 6, RECORD_WORD_AT = 8 };
+
+// A lent drawer with the count it is handed in with. The bytes are freed with drawer_free.
+struct drawer {
+  uint64_t count;
+  size_t length;
+  uint8_t *bytes;
+};
+
+// Writes a whole record, the table as it stands, zeros behind it.
+void put_record(uint8_t *record, uint32_t die, const struct map *map);
+void put_die(uint8_t *record, uint32_t die);
+
+// Records count from 1. The map is the one of a good record: its word is a dart table too.
+uint8_t *drawer_record(const struct drawer *drawer, uint64_t record);
+uint32_t record_die(const uint8_t *record);
+struct map record_map(const uint8_t *record);
+
+// Both have `spare` bytes behind the counted records, of chance where `garbage` is set. The packed
+// one is filed without the reference calls, which take long on many records, and checked once.
+struct drawer good_drawer(struct chance *chance, uint64_t count, size_t spare, bool garbage);
+struct drawer packed_drawer(struct chance *chance, uint64_t count, size_t spare);
+void drawer_free(struct drawer *drawer);
+
+// A map whose layout is not filed in the drawer, and a die number that is not.
+struct map unfiled_map(struct chance *chance, const struct drawer *drawer);
+uint32_t unfiled_die(struct chance *chance, const struct drawer *drawer);
+
+enum spoil {
+  SPOIL_DIE_ZERO,
+  SPOIL_N_OUT_OF_BOUNDS,
+  SPOIL_M_ZERO,
+  SPOIL_M_TOO_LARGE,
+  SPOIL_ZERO_BYTE,
+  SPOIL_FIRST_FILLING,
+  SPOIL_LAST_FILLING,
+  SPOIL_SOME_FILLING,
+  SPOIL_WORD_REFUSED,
+  SPOIL_WORD_RENUMBERED,
+  SPOIL_SIZES,
+  SPOIL_DIE_REPEATED,
+  SPOIL_LAYOUT_REPEATED,
+  SPOIL_COUNT
+};
+const char *spoil_name(enum spoil spoil);
+
+// Makes the record bad; false where this spoil cannot do it, and then the drawer is as it was.
+bool spoil_record(struct chance *chance, struct drawer *drawer, uint64_t record, enum spoil spoil);
+
+#endif

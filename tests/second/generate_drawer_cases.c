@@ -90,6 +90,28 @@ static void print_good(struct chance *chance, uint64_t cases) {
   }
 }
 
+// Cases C and D have one word, 0 1: one of them is filed, or both, and the other one is wanted.
+static void print_alike(struct chance *chance, uint64_t cases) {
+  printf("# two layouts of one word and different n\n");
+  struct map two_darts = {.n = 1, .m = 2, .length = 2, .table = {2, 0}};
+  struct map one_dart = {.n = 2, .m = 1, .length = 2, .table = {0, 1}};
+  uint64_t which = chance_below(chance, 3);
+  for (uint64_t k = 0; k < cases; which++) {
+    struct drawer drawer = good_drawer(chance, 0, 4 * RECORD_BYTES, chance_one_in(chance, 2));
+    const struct map *filed = which % 2 == 0 ? &two_darts : &one_dart;
+    const struct map *wanted = which % 2 == 0 ? &one_dart : &two_darts;
+    drawer_file(chance, &drawer, filed);
+    if (which % 3 == 2) {
+      drawer_file(chance, &drawer, wanted);
+    }
+    uint32_t die = unfiled_die(chance, &drawer);
+    for (uint64_t turn = 0; turn < 4 && k < cases; turn++, k++) {
+      print_call(turn, die, wanted, &drawer);
+    }
+    drawer_free(&drawer);
+  }
+}
+
 // Records behind the count are bytes like any others: not found, not compared, written over.
 static void print_behind_count(struct chance *chance, uint64_t cases) {
   printf("# good drawers with filed records behind the count\n");
@@ -367,11 +389,12 @@ struct drawer_group {
 };
 
 static const struct drawer_group drawer_groups[] = {
-    {24, print_good},         {8, print_behind_count}, {60, print_spoiled}, {22, print_bad_counts},
-    {34, print_refused_maps}, {26, print_filings},     {16, print_history}, {10, print_fulls},
+    {20, print_good},    {12, print_alike},      {8, print_behind_count},
+    {56, print_spoiled}, {20, print_bad_counts}, {34, print_refused_maps},
+    {26, print_filings}, {14, print_history},    {10, print_fulls},
 };
 
-enum { DRAWER_TOTAL = 24 + 8 + 60 + 22 + 34 + 26 + 16 + 10 };
+enum { DRAWER_TOTAL = 20 + 12 + 8 + 56 + 20 + 34 + 26 + 14 + 10 };
 
 void print_drawer_cases(struct chance *chance, uint64_t count) {
   uint64_t before = 0;

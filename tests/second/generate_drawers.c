@@ -183,6 +183,16 @@ uint32_t unfiled_die(struct chance *chance, const struct drawer *drawer) {
   return die;
 }
 
+void drawer_file(struct chance *chance, struct drawer *drawer, const struct map *map) {
+  uint32_t die = unfiled_die(chance, drawer);
+  struct second_filed filed =
+      second_add(die, map_lent(map), drawer->count, drawer->bytes, drawer->length);
+  if (filed.number != 0) {
+    fail("filing a new layout", filed.number);
+  }
+  drawer->count = filed.count;
+}
+
 const char *spoil_name(enum spoil spoil) {
   static const char *const names[SPOIL_COUNT] = {
       "die 0",

@@ -35,6 +35,9 @@ void drawer_free(struct drawer *drawer);
 struct map unfiled_map(struct chance *chance, const struct drawer *drawer);
 uint32_t unfiled_die(struct chance *chance, const struct drawer *drawer);
 
+// Files a layout that is not filed yet, under a new die number.
+void drawer_file(struct chance *chance, struct drawer *drawer, const struct map *map);
+
 enum spoil {
   SPOIL_DIE_ZERO,
   SPOIL_N_OUT_OF_BOUNDS,

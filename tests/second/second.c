@@ -14,6 +14,7 @@ enum {
   RECORD_BYTES = 2048,
   ZERO_BYTE_AT = 5,
   WORD_AT = 8,
+  // Above every call number.
   NOT_CALLED = 65535
 };
 

@@ -914,15 +914,17 @@ static void check_list_several(void) {
 
 // The lister has no limit of 1,024 records.
 static void check_list_many(void) {
+  static const char line[] = "501 2 7 1 7\n";
+  static const char last_line[] = "0 refused 14 1025\n";
+  size_t line_length = sizeof line - 1;
   uint8_t *records = room_for(1025 * RECORD);
-  char *expected = room_for(1025 * 20);
-  size_t length = 0;
+  char *expected = room_for(1024 * line_length + sizeof last_line);
   for (unsigned at = 0; at < 1024; at++) {
     put_record(records + at * RECORD, 501, case_f);
-    length += (size_t)sprintf(expected + length, "501 2 7 1 7\n");
+    memcpy(expected + at * line_length, line, line_length);
   }
   put_record(records + 1024 * RECORD, 0, case_f);
-  sprintf(expected + length, "0 refused 14 1025\n");
+  memcpy(expected + 1024 * line_length, last_line, sizeof last_line);
   list_gives("1,025 records", records, 1025 * RECORD, expected);
   free(records);
   free(expected);

@@ -7,6 +7,7 @@
 --     least-none, none-least      it is 0 exactly when none passes
 --     least-is                    the one that passes while no lower one does
 --     least-cong                  tests that agree have the same least
+--     passed-..                   a search that goes from 1 upwards
 -- Assumes nothing.
 use Prim.Native.Nat.{ℕ, zero, suc, _+_, _≤_, _<_}
 use mathlib.Core.Path.{_≡_, refl, sym, ap, _∙_}
@@ -15,7 +16,7 @@ use mathlib.Core.List.{List, [], _∷_, _++_, map}
 use mathlib.Core.Logic.{⊎-elim}
 use lib.Seq.{getD-append-seam}
 use native.Mathlib.Omega.{arith}
-use native.Mathlib.Nat.{le-suc, le-suc-iff, le-of-suc-le, le-of-suc-le-suc, not-suc-le-zero, le-trans}
+use native.Mathlib.Nat.{eq-or-lt-of-le, le-suc, le-suc-iff, le-of-suc-le, le-of-suc-le-suc, not-suc-le-zero, le-trans}
 use native.Mathlib.Numerals.{add-one}
 use borrow.Author.Tests.{lt-ltb, le-ltb, ltb-true, ltb-false}
 use lib.Dec.{ltb}
@@ -169,6 +170,26 @@ module _ (p : ℕ → Bool) (k : ℕ) where
       at : Tested (some k p) → some k p ≡ true
       at (passes e) = e
       at (fails e) = absurd (true-not-false hit (some-misses e d low high))
+
+-- a search that has come to i: no number from 1 to below i passes
+abbrev pub Passed : (ℕ → Bool) → ℕ → Type 0
+Passed p i = (j : ℕ) → 1 ≤ j → j < i → p j ≡ false
+
+pub passed-start : (p : ℕ → Bool) → Passed p 1
+passed-start p j low high = absurd (omega arith)
+
+module _ (p : ℕ → Bool) {i : ℕ} (so-far : Passed p i) where
+  pub passed-turn : p i ≡ false → Passed p (i + 1)
+  passed-turn miss j low high = ⊎-elim (λ e. rw e miss) (λ h. so-far j low h) (eq-or-lt-of-le (le-of-lt-add-one high))
+    where
+      le-of-lt-add-one : j < i + 1 → j ≤ i
+      le-of-lt-add-one h = omega arith
+
+  pub passed-misses : {k : ℕ} → k < i → Misses p k
+  passed-misses past j low high = so-far j low (omega arith)
+
+  pub passed-found : {k : ℕ} → 1 ≤ i → i ≤ k → p i ≡ true → Found p k i
+  passed-found low high hit = record { low = low; high = high; hit = hit; before = so-far }
 
 -- tests that agree up to k
 abbrev pub Agree : (ℕ → Bool) → (ℕ → Bool) → ℕ → Type 0

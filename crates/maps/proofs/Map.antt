@@ -65,7 +65,7 @@ unfolding sew isDart
 sew-back M d h = simp (le-leb 1 d (h .0), le-leb d (M .darts) (h .1), le-leb 0 (M .dim) (omega arith))
 
 -- the test of `back`: β1 takes e to d, as written
-takes : Map → ℕ → ℕ → Bool
+unfoldable pub takes : Map → ℕ → ℕ → Bool
 takes M d e = eqb (M .beta 1 e) d
 
 back-least : (M : Map) (d : ℕ) → back M d ≡ least (M .darts) (takes M d)

@@ -5,3 +5,4 @@ pub mod Accepted
 pub mod Matching
 pub mod Verdict
 pub mod Rules
+pub mod Judged

@@ -1,2 +1,235 @@
-// What a map is: tables, sewings, the rules on a table's entries, accepted maps, matchings.
-// Its definitions stand in specs/; its code is still to come.
+// What a map is: a dart table judged by rules 1 to 8, and β0 of each dart.
+ghost use mathlib.Core.Path.{_≡_};
+ghost use Prim.Native.Nat.{_≤_};
+ghost use lib.ListN.{replicate};
+ghost use Rattle.maps.specs.Map.{sew, tableMap};
+ghost use Rattle.maps.specs.Verdict.{accepts, inOrder};
+ghost use Rattle.maps.specs.Rules.{unanswered, parted, composesWrong, dartAt, wrongEntry, judgeEntries};
+ghost use Rattle.maps.specs.Judged.{Shaped, Within, BackAs, JudgedAs, judgeOutput, judgeSewing, ruleOf};
+
+// A verdict: passed, or refused with document 01's number and place.
+pub enum Judged {
+    Passed,
+    Refused { number: u32, place: usize },
+}
+
+// The output that a call is lent beside its table, with its length: none, one for a word, or one for a matching's images.
+pub enum Output {
+    Nothing,
+    Word(usize),
+    Images(usize),
+}
+
+// A table judged, and β0 of each dart where it passed: back[d - 1] is the dart that β1 takes to d, or 0.
+pub struct Sewings {
+    pub judged: Judged,
+    pub back: [u16; 1020],
+}
+
+// The rules that are judged entry by entry: 5, 7 and 8.
+enum Law {
+    Bounded,
+    Reversed,
+    Composed,
+}
+
+fn wide(x: u16) -> usize
+    ensures { λ r. ⌜ r ≡ x ⌝ }
+{
+    x as usize
+}
+
+// βi(d) for i from 1. Nothing is sewn to what is no dart.
+fn sewn(n: usize, m: usize, table: &[u16], i: usize, d: usize) -> usize
+    requires { ⌜ Shaped n m (now table) × (1 ≤ i) × (i ≤ n) ⌝ }
+    ensures { λ r. ⌜ r ≡ sew (tableMap n m (now (table .entry))) i d ⌝ }
+{
+    if d == 0 {
+        return 0;
+    }
+    if m < d {
+        return 0;
+    }
+    wide(table[(d - 1) * n + (i - 1)])
+}
+
+// Rule 7 at one entry: βi(d) is sewn, and βi does not lead back.
+fn not_answered(n: usize, m: usize, table: &[u16], d: usize, i: usize) -> bool
+    requires { ⌜ Shaped n m (now table) × (1 ≤ i) × (i ≤ n) ⌝ }
+    ensures { λ r. ⌜ r ≡ unanswered (tableMap n m (now (table .entry))) d i ⌝ }
+{
+    if i < 2 {
+        return false;
+    }
+    let e = sewn(n, m, table, i, d);
+    if e == 0 {
+        return false;
+    }
+    sewn(n, m, table, i, e) != d
+}
+
+// The composition of βi and βj, twice, leads from d elsewhere.
+fn parts(n: usize, m: usize, table: &[u16], i: usize, j: usize, d: usize) -> bool
+    requires { ⌜ Shaped n m (now table) × (1 ≤ i) × (i ≤ n) × (1 ≤ j) × (j ≤ n) ⌝ }
+    ensures { λ r. ⌜ r ≡ parted (tableMap n m (now (table .entry))) i j d ⌝ }
+{
+    let e = sewn(n, m, table, i, sewn(n, m, table, j, d));
+    if e == 0 {
+        return false;
+    }
+    sewn(n, m, table, i, sewn(n, m, table, j, e)) != d
+}
+
+// Rule 8 at one entry: a composition with βj fails at d.
+fn not_composed(n: usize, m: usize, table: &[u16], d: usize, j: usize) -> bool
+    requires { ⌜ Shaped n m (now table) × (1 ≤ j) × (j ≤ n) ⌝ }
+    ensures { λ r. ⌜ r ≡ composesWrong (tableMap n m (now (table .entry))) d j ⌝ }
+{
+    let mut i = 1;
+    while i + 2 <= j {
+        if parts(n, m, table, i, j, d) {
+            return true;
+        }
+        i += 1;
+    }
+    false
+}
+
+// One rule at one entry.
+fn breaks(law: Law, n: usize, m: usize, table: &[u16], d: usize, i: usize) -> bool
+    requires { ⌜ Shaped n m (now table) × (1 ≤ i) × (i ≤ n) ⌝ }
+    ensures { λ r. ⌜ r ≡ ruleOf law .broken (tableMap n m (now (table .entry))) d i ⌝ }
+{
+    match law {
+        Law::Bounded => m < sewn(n, m, table, i, d),
+        Law::Reversed => not_answered(n, m, table, d, i),
+        Law::Composed => not_composed(n, m, table, d, i),
+    }
+}
+
+// The place of the least entry that breaks a rule, or 0.
+fn wrong_entry(law: Law, n: usize, m: usize, table: &[u16]) -> usize
+    requires { ⌜ Shaped n m (now table) ⌝ }
+    ensures { λ r. ⌜ r ≡ wrongEntry (tableMap n m (now (table .entry))) (ruleOf law) ⌝ }
+{
+    let mut p = 1;
+    let mut d = 1;
+    let mut i = 1;
+    while p <= table.len() {
+        if breaks(law, n, m, table, d, i) {
+            return p;
+        }
+        p += 1;
+        if i < n {
+            i += 1;
+        } else {
+            i = 1;
+            d += 1;
+        }
+    }
+    0
+}
+
+// Finds β0 of each dart, and with it the least entry that breaks rule 6, or 0: a dart that β1 gave before has its β0 already.
+fn sew_back(n: usize, m: usize, table: &[u16], back: &mut [u16; 1020]) -> usize
+    requires { ⌜ Shaped n m (now table) × Within n m (now table) × (now back ≡ replicate 1020 0) ⌝ }
+    ensures { λ r. ⌜ BackAs (tableMap n m (now (table .entry))) r (now (back .exit)) ⌝ }
+{
+    let mut d = 1;
+    while d <= m {
+        let e = sewn(n, m, table, 1, d);
+        if e != 0 {
+            if back[e - 1] != 0 {
+                return (d - 1) * n + 1;
+            }
+            back[e - 1] = d as u16;
+        }
+        d += 1;
+    }
+    0
+}
+
+// What the display shows of a wrong entry: its dart.
+fn shown(n: usize, p: usize) -> usize
+    requires { ⌜ (1 ≤ n) × (1 ≤ p) ⌝ }
+    ensures { λ r. ⌜ r ≡ dartAt n p ⌝ }
+{
+    (p - 1) / n + 1
+}
+
+fn refused(number: u32, place: usize) -> Sewings
+    ensures { λ r. ⌜ (r .judged ≡ Judged.Refused number place) × (r .back ≡ replicate 1020 0) ⌝ }
+{
+    Sewings {
+        judged: Judged::Refused { number, place },
+        back: [0; 1020],
+    }
+}
+
+// Rules 5 to 8 of a table that has passed 1 to 4.
+fn judge_entries(n: usize, m: usize, table: &[u16]) -> Sewings
+    requires { ⌜ Shaped n m (now table) ⌝ }
+    ensures { λ r. ⌜ JudgedAs (tableMap n m (now (table .entry))) (inOrder (judgeEntries (tableMap n m (now (table .entry))))) r ⌝ }
+{
+    let over = wrong_entry(Law::Bounded, n, m, table);
+    if over != 0 {
+        return refused(5, shown(n, over));
+    }
+    let mut back = [0u16; 1020];
+    let given = sew_back(n, m, table, &mut back);
+    if given != 0 {
+        return refused(6, shown(n, given));
+    }
+    let parted = wrong_entry(Law::Reversed, n, m, table);
+    if parted != 0 {
+        return refused(7, shown(n, parted));
+    }
+    let twisted = wrong_entry(Law::Composed, n, m, table);
+    if twisted != 0 {
+        return refused(8, shown(n, twisted));
+    }
+    Sewings {
+        judged: Judged::Passed,
+        back,
+    }
+}
+
+// The output is long enough for what the call writes.
+fn has_room(output: Output, n: usize, m: usize) -> bool
+    requires { ⌜ (n ≤ 4) × (m ≤ 1020) ⌝ }
+    ensures { λ r. ⌜ r ≡ accepts (inOrder (judgeOutput output n m)) ⌝ }
+{
+    match output {
+        Output::Nothing => true,
+        Output::Word(room) => n * m <= room,
+        Output::Images(room) => m <= room,
+    }
+}
+
+// Rules 1 to 8, in order, for whatever a caller hands in.
+pub fn judge(n: usize, m: usize, table: &[u16], output: Output) -> Sewings
+    ensures { λ r. ⌜ JudgedAs (tableMap n m (now (table .entry))) (judgeSewing n m (now (table .entry)) output) r ⌝ }
+{
+    if n < 1 {
+        return refused(1, 0);
+    }
+    if 4 < n {
+        return refused(1, 0);
+    }
+    if m < 1 {
+        return refused(2, 0);
+    }
+    if 1020 < m {
+        return refused(2, 0);
+    }
+    if 1020 < n * m {
+        return refused(2, 0);
+    }
+    if table.len() != n * m {
+        return refused(3, 0);
+    }
+    if has_room(output, n, m) {
+        return judge_entries(n, m, table);
+    }
+    refused(4, 0)
+}

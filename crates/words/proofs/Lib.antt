@@ -1,2 +1,7 @@
 -- The laws of `specs/`, for this crate's proofs and those of the crates that link it.
 pub mod Opened
+pub mod Words
+pub mod Order
+pub mod Carried
+pub mod Labels
+pub mod Theorems

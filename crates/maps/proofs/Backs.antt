@@ -1,0 +1,103 @@
+-- β0 found dart by dart, and rule 6 with it: what the array holds once the first k darts are passed.
+--     Backs M k back     at each dart stands the least of the first k darts that β1 takes there, or 0
+--     backs-start        before any dart is passed, nothing
+--     backs-unsewn       an unsewn dart changes nothing
+--     backs-given        a sewn dart is written where nothing stands
+--     backs-whole        once all are passed, β0 of every dart
+--     clash-..           rule 6 at a dart, by what stands in the array
+-- Assumes nothing.
+use Prim.Native.Nat.{ℕ, suc, _+_, _-_, _≤_, _<_}
+use mathlib.Core.Path.{_≡_, refl, sym, ap, _∙_}
+use mathlib.Core.Bool.{Bool, true, false, _&&_}
+use mathlib.Core.List.{List, map}
+use native.Mathlib.Omega.{arith}
+use borrow.Author.Tests.{eq-eqb, ne-eqb, eqb-true, eqb-false, lt-ltb}
+use lib.Dec.{eqb, ltb}
+use lib.ListN.{length, getD, set, replicate, length-set, length-map, length-replicate, getD-replicate}
+use lib.Seq.{getD-set-same, getD-set-other, ext-getD}
+use Rattle.maps.specs.Least.{nth, upTo, least, some}
+use Rattle.maps.specs.Map.{Map, IsDart, back, sew}
+use Rattle.maps.specs.Rules.{givenBefore}
+use Rattle.maps.specs.Judged.{backsOf}
+use Rattle.maps.proofs.Least.{least-hit, least-miss, least-kept, least-none, sought, Sought, nowhere, somewhere, Tested, passes, fails, tested, some-cong, length-upTo, nth-map-upTo, nth-suc}
+use Rattle.maps.proofs.Map.{takes, sew-beta}
+
+-- at each dart stands the least of the first k darts that β1 takes there, or 0
+pub record Backs (M : Map) (k : ℕ) (held : List ℕ) : Type 0 where
+  pub long : length held ≡ 1020
+  pub stands : (e : ℕ) → 1 ≤ e → e ≤ 1020 → getD held (e - 1) 0 ≡ least k (takes M e)
+
+pub backs-start : (M : Map) → Backs M 0 (replicate 1020 0)
+unfolding least
+backs-start M = record { long = length-replicate {A = ℕ} 1020 0; stands = λ e low high. getD-replicate {A = ℕ} 1020 (e - 1) 0 0 (omega arith) }
+
+-- one dart more that β1 does not take to e
+takes-not : (M : Map) (k e : ℕ) → takes M e (suc k) ≡ false → least (suc k) (takes M e) ≡ least k (takes M e)
+takes-not M k e miss = at (sought (takes M e) k)
+  where
+    at : Sought (takes M e) k → least (suc k) (takes M e) ≡ least k (takes M e)
+    at (nowhere none m) = least-miss (takes M e) k none miss ∙ sym none
+    at (somewhere d is f) = least-kept (takes M e) k (rw is (f .low))
+
+module _ {M : Map} {k : ℕ} {held : List ℕ} (b : Backs M k held) (dart : IsDart M (suc k)) (dim : 1 ≤ M .dim) where
+  -- β1 of the next dart, as written
+  next : sew M 1 (suc k) ≡ M .beta 1 (suc k)
+  next = sew-beta M 1 (suc k) dart (omega arith) dim
+
+  pub backs-unsewn : sew M 1 (suc k) ≡ 0 → Backs M (suc k) held
+  unfolding takes
+  backs-unsewn none =
+      record {
+        long = b .long;
+        stands = λ e low high.
+            b .stands e low high ∙ sym (takes-not M k e (rw (← next, none) (ne-eqb 0 e (λ z. omega arith))));
+      }
+
+  pub backs-given : (x : ℕ) → x ≡ sew M 1 (suc k) → 1 ≤ x → x ≤ 1020 → getD held (x - 1) 0 ≡ 0 → Backs M (suc k) (set held (x - 1) (suc k))
+  unfolding takes
+  backs-given x is low high free = record { long = length-set held (x - 1) (suc k) ∙ b .long; stands = after }
+    where
+      after : (e : ℕ) → 1 ≤ e → e ≤ 1020 → getD (set held (x - 1) (suc k)) (e - 1) 0 ≡ least (suc k) (takes M e)
+      after e elow ehigh = at (tested (eqb e x))
+        where
+          at : Tested (eqb e x) → getD (set held (x - 1) (suc k)) (e - 1) 0 ≡ least (suc k) (takes M e)
+          at (passes h) =
+              let same : e ≡ x = eqb-true e x h in
+              let none : least k (takes M x) ≡ 0 = sym (b .stands x low high) ∙ free in
+              let hit : takes M x (suc k) ≡ true = eq-eqb (M .beta 1 (suc k)) x (sym next ∙ sym is) in
+              rw same (getD-set-same held (x - 1) (suc k) 0 (omega (arith, b .long)) ∙ sym (least-hit (takes M x) k none hit))
+          at (fails h) =
+              let differ : e ≡ x → ⊥ = eqb-false e x h in
+              let miss : takes M e (suc k) ≡ false = ne-eqb (M .beta 1 (suc k)) e (λ z. differ (sym z ∙ sym next ∙ sym is)) in
+              getD-set-other held (x - 1) (e - 1) (suc k) 0 (λ z. differ (omega arith))
+              ∙ b .stands e elow ehigh
+              ∙ sym (takes-not M k e miss)
+
+  -- rule 6 at the next dart: something stands where it is sewn to
+  pub clash-sewn : (x : ℕ) → x ≡ sew M 1 (suc k) → 1 ≤ x → x ≤ 1020 → givenBefore M (suc k) 1 ≡ ltb 0 (getD held (x - 1) 0)
+  unfolding givenBefore takes some
+  clash-sewn x is low high =
+      let one-less : suc k - 1 ≡ k = omega arith in
+      let sewn : ltb 0 x ≡ true = lt-ltb 0 x low in
+      let agree : some k (λ e. eqb (sew M 1 e) x) ≡ some k (takes M x) =
+      some-cong (λ j jlow jhigh. ap (λ (y : ℕ). eqb y x) (sew-beta M 1 j (jlow, omega (arith, dart .1)) (omega arith) dim)) in
+      rw (one-less, ← is, sewn, b .stands x low high) agree
+
+  -- "Counting two unsewn edges as a β1 clash" is wrong
+  pub clash-unsewn : sew M 1 (suc k) ≡ 0 → givenBefore M (suc k) 1 ≡ false
+  unfolding givenBefore
+  clash-unsewn none = simp none
+
+pub backs-whole : (M : Map) (held : List ℕ) → Backs M (M .darts) held → held ≡ backsOf M
+unfolding backsOf back takes
+backs-whole M held b =
+    ext-getD 0 held (map (back M) (upTo 1020)) (b .long ∙ sym long)
+    (λ i below.
+    let here : getD held (suc i - 1) 0 ≡ back M (suc i) = b .stands (suc i) (omega arith) (omega (arith, b .long)) in
+    let index : suc i - 1 ≡ i = omega arith in
+    let there : nth (map (back M) (upTo 1020)) (suc i) ≡ back M (suc i) =
+    nth-map-upTo (back M) 1020 (suc i) (omega arith) (omega (arith, b .long)) in
+    (rw index at here) ∙ sym there ∙ nth-suc (map (back M) (upTo 1020)) i)
+  where
+    long : length (map (back M) (upTo 1020)) ≡ 1020
+    long = length-map (upTo 1020) (back M) ∙ length-upTo 1020

@@ -7,7 +7,7 @@
 --     tried to q k                               a serving under way: β0 to βk have been tried
 --     serve-labels                               once d is served, what is sewn to it has a label
 --     served-still, served-labelling             past the queue's end nothing changes: there the labelling is done
---     Queue M q                                  q holds darts of M alone, and none twice; `..-queue` says what keeps it
+--     ..-queue                                   q holds darts of M alone, and none twice (`Queue`): what keeps it
 --     queue-short, queue-room                    it is no longer than there are darts
 --     served-ahead, served-next                  a dart is labelled before its turn to be served
 --     labelling-closed                           what is sewn to a labelled dart has a label
@@ -27,6 +27,7 @@ use Rattle.maps.specs.Least.{nth, upTo}
 use Rattle.maps.specs.Map.{Map, IsDart, sew}
 use Rattle.maps.proofs.Least.{Tested, passes, fails, tested, nth-past, nth-append, nth-snoc-at, nth-zero, map-append}
 use Rattle.maps.proofs.Map.{sew-zero, sewn-low}
+use Rattle.labels.specs.Arrays.{Queue}
 use Rattle.labels.specs.Labelling.{further, labelIn, visit, visits, serve, served, labelling}
 use Rattle.labels.proofs.Pigeonhole.{pigeonhole}
 
@@ -390,11 +391,6 @@ module _ (M : Map) (d : ℕ) where
 
   pub labelling-first : nth (labelling M d) 1 ≡ d
   labelling-first = rw labelling-start at (nth-labelIn (labelling M d) d (let one = labelling-start in omega arith))
-
--- q holds darts of M alone, and none twice
-pub record Queue (M : Map) (q : List ℕ) : Type 0 where
-  pub of-darts : (k : ℕ) → 1 ≤ k → k ≤ length q → IsDart M (nth q k)
-  pub once : (k : ℕ) → 1 ≤ k → k ≤ length q → labelIn q (nth q k) ≡ k
 
 module _ {M : Map} {q : List ℕ} (u : Queue M q) where
   -- what has a label is a dart

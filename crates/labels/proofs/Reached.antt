@@ -23,7 +23,8 @@ use Rattle.labels.specs.Labelling.{labelIn, visit, serve, served, labell
 use Rattle.labels.proofs.Pigeonhole.{pigeonhole}
 use Rattle.labels.proofs.Queue.{labelIn-le, nth-labelIn, place-labelled, labelIn-apart, labelIn-snoc-other}
 use Rattle.labels.proofs.Queue.{Met, nothing, old, new, met, tried, tried-zero, tried-suc, serve-tried, served-zero, served-suc}
-use Rattle.labels.proofs.Queue.{labelling-served, labelling-start, labelling-closed, Queue, queue-short, labelling-queue}
+use Rattle.labels.proofs.Queue.{labelling-served, labelling-start, labelling-closed, queue-short, labelling-queue}
+use Rattle.labels.specs.Arrays.{Queue}
 
 -- every dart that has a label is a P
 abbrev Labelled : (ℕ → Type 0) → List ℕ → Type 0

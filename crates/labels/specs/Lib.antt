@@ -1,3 +1,4 @@
 -- The labelling, and the plain check of a dart table. Read in this order.
 pub mod Labelling
 pub mod Check
+pub mod Arrays

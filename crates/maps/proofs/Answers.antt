@@ -4,6 +4,8 @@
 --     within                          what rule 5 leaves
 --     sewing-low .. sewing-entries    numbers 1 to 4
 --     as-refused, as-passed           an answer that has its verdict
+--     sewing-shaped, sewing-open      what a table that passes 1 to 8 is
+--     passed-accepts, refused-accepts an answer is `Passed` exactly when its verdict accepts
 --     judged-only                     no second answer fits
 --     verdictOf-judgedOf              an answer's number and place are its verdict's
 -- Assumes nothing.
@@ -12,14 +14,15 @@ use mathlib.Core.Path.{_≡_, refl, sym, ap, _∙_}
 use mathlib.Core.Bool.{Bool, true, false, cond}
 use mathlib.Core.List.{List, [], _∷_, _++_, map}
 use native.Mathlib.Omega.{arith}
-use borrow.Author.Tests.{eq-eqb, ne-eqb, eqb-true, le-leb, lt-leb, ltb-true, ltb-false}
+use borrow.Author.Tests.{eq-eqb, ne-eqb, eqb-true, eqb-false, leb-true, leb-false, le-leb, lt-leb, ltb-true, ltb-false}
 use native.Mathlib.Nat.{mul-le-mul-right}
 use lib.Dec.{eqb, leb, ltb}
 use lib.ListN.{length, replicate}
 use Rattle.maps.specs.Map.{Map, sew, back, tableMap}
+use Rattle.maps.specs.Accepted.{OpenMap}
 use Rattle.maps.specs.Verdict.{Verdict, accepted, refused, accepts, unless, inOrder}
 use Rattle.maps.specs.Rules.{Rule, rules, judgeDimension, judgeSize, judgeLength, judgeRoom, exceeds, dartAt, wrongEntry, shownPlace, judgedBy, judgeEntries}
-use Rattle.maps.specs.Judged.{verdictOf, judgedOf, backsOf, JudgedAs, judgeOutput, judgeSewing, ruleOf}
+use Rattle.maps.specs.Judged.{Shaped, verdictOf, judgedOf, backsOf, JudgedAs, judgeOutput, judgeSewing, ruleOf}
 use Rattle.maps.specs.declared.Judged.{Judged}
 use Rattle.maps.specs.declared.Judged.the-variants.{Passed, Refused}
 use Rattle.maps.specs.declared.Output.{Output}
@@ -28,9 +31,9 @@ use Rattle.maps.specs.declared.Sewings.{Sewings}
 use Rattle.maps.specs.declared.Law.the-variants.{Bounded, Reversed, Composed}
 use Rattle.maps.proofs.Least.{Tested, passes, fails, tested, true-not-false, least-le}
 use Rattle.maps.proofs.Map.{sew-back, sewn-dart, sewn-low}
-use Rattle.maps.proofs.Verdict.{inOrder-append, room-accepts}
+use Rattle.maps.proofs.Verdict.{inOrder-append, inOrder-accepts, room-accepts}
 use Rattle.maps.proofs.Entries.{clashRule}
-use Rattle.maps.proofs.Judging.{wrongEntry-none}
+use Rattle.maps.proofs.Judging.{wrongEntry-none, entries-accepted}
 
 module _ (M : Map) (r : Rule) (rs : List Rule) where
   pub rules-passed : wrongEntry M r ≡ 0 → inOrder (map (judgedBy M) (r ∷ rs)) ≡ inOrder (map (judgedBy M) rs)
@@ -191,3 +194,77 @@ module _ (n m : ℕ) (t : List ℕ) (o : Output) where
           pub sewing-short : accepts (inOrder (judgeOutput o n m)) ≡ false → judgeSewing n m t o ≡ refused 4 0
           sewing-short room =
               sewing-left ∙ inOrder-append (judgeOutput o n m) (judgeEntries (tableMap n m t)) ∙ simp room (output-refused o n m room)
+
+-- what a table that passes 1 to 8 is: of the right length, in bounds, and every βi leads to a dart or to nothing
+module _ (n m : ℕ) (t : List ℕ) (o : Output) (accepting : accepts (judgeSewing n m t o) ≡ true) where
+  pub sewing-accepted : judgeSewing n m t o ≡ accepted
+  unfolding judgeSewing
+  sewing-accepted = inOrder-accepts (judgeDimension n ∷ judgeSize n m ∷ judgeLength n m t ∷ judgeOutput o n m ++ judgeEntries (tableMap n m t)) accepting
+
+  not-refused : (k p : ℕ) → 1 ≤ k → judgeSewing n m t o ≡ refused k p → ⊥
+  unfolding accepts refused
+  not-refused k p some is =
+      true-not-false accepting (ap accepts is ∙ ne-eqb k 0 (λ z. omega arith))
+
+  bounded : (1 ≤ n) × (n ≤ 4) × (1 ≤ m) × (n * m ≤ 1020)
+  bounded = at (tested (leb 1 n)) (tested (leb n 4)) (tested (leb 1 m)) (tested (leb (n * m) 1020))
+    where
+      at : Tested (leb 1 n) → Tested (leb n 4) → Tested (leb 1 m) → Tested (leb (n * m) 1020) → (1 ≤ n) × (n ≤ 4) × (1 ≤ m) × (n * m ≤ 1020)
+      at (passes a) (passes b) (passes c) (passes d) =
+          (leb-true 1 n a, leb-true n 4 b, leb-true 1 m c, leb-true (n * m) 1020 d)
+      at (fails a) b c d = absurd (not-refused 1 0 (omega arith) (sewing-low n m t o (leb-false 1 n a)))
+      at (passes a) (fails b) c d = absurd (not-refused 1 0 (omega arith) (sewing-high n m t o (leb-false n 4 b)))
+      at (passes a) (passes b) (fails c) d =
+          absurd (not-refused 2 0 (omega arith) (sewing-none n m t o (leb-true 1 n a) (leb-true n 4 b) (leb-false 1 m c)))
+      at (passes a) (passes b) (passes c) (fails d) =
+          absurd (not-refused 2 0 (omega arith) (sewing-most n m t o (leb-true 1 n a) (leb-true n 4 b) (leb-true 1 m c) (leb-false (n * m) 1020 d)))
+
+  pub sewing-shaped : Shaped n m t
+  sewing-shaped = at (tested (eqb (length t) (n * m)))
+    where
+      at : Tested (eqb (length t) (n * m)) → Shaped n m t
+      at (passes e) =
+          record {
+            dim-least = bounded .0;
+            dim-most = bounded .1;
+            darts-least = bounded .2;
+            most = bounded .3;
+            long = eqb-true (length t) (n * m) e;
+          }
+      at (fails e) =
+          absurd
+          (not-refused 3 0 (omega arith)
+          (sewing-long n m t o (bounded .0) (bounded .1) (bounded .2) (bounded .3) (eqb-false (length t) (n * m) e)))
+
+  pub sewing-open : OpenMap (tableMap n m t)
+  unfolding tableMap
+  sewing-open = entries-accepted (tableMap n m t) (bounded .0) .0 (inOrder-accepts (judgeEntries (tableMap n m t)) (at (tested (accepts (inOrder (judgeOutput o n m))))))
+    where
+      at : Tested (accepts (inOrder (judgeOutput o n m))) → accepts (inOrder (judgeEntries (tableMap n m t))) ≡ true
+      at (passes room) =
+          ap accepts (sym (sewing-entries n m t o (bounded .0) (bounded .1) (bounded .2) (bounded .3) (sewing-shaped .long) room)) ∙ accepting
+      at (fails short) =
+          absurd (not-refused 4 0 (omega arith) (sewing-short n m t o (bounded .0) (bounded .1) (bounded .2) (bounded .3) (sewing-shaped .long) short))
+
+-- an answer is `Passed` exactly when its verdict accepts
+pub passed-accepts : (v : Verdict) → Passed ≡ judgedOf v → accepts v ≡ true
+unfolding judgedOf
+passed-accepts v is = at (tested (accepts v))
+  where
+    at : Tested (accepts v) → accepts v ≡ true
+    at (passes e) = e
+    at (fails e) =
+        let other : Passed ≡ Refused (v .number) (v .place) = simp e at is in
+        let z : _≡_ {A = ℕ} 0 1 = cc in
+        absurd (omega arith)
+
+pub refused-accepts : (v : Verdict) (k p : ℕ) → Refused k p ≡ judgedOf v → accepts v ≡ false
+unfolding judgedOf
+refused-accepts v k p is = at (tested (accepts v))
+  where
+    at : Tested (accepts v) → accepts v ≡ false
+    at (fails e) = e
+    at (passes e) =
+        let other : Refused k p ≡ Passed = simp e at is in
+        let z : _≡_ {A = ℕ} 0 1 = cc in
+        absurd (omega arith)

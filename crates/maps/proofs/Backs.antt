@@ -5,6 +5,7 @@
 --     backs-given        a sewn dart is written where nothing stands
 --     backs-whole        once all are passed, β0 of every dart
 --     clash-..           rule 6 at a dart, by what stands in the array
+--     backs-sew          β0 of a dart, read off the array
 -- Assumes nothing.
 use Prim.Native.Nat.{ℕ, suc, _+_, _-_, _≤_, _<_}
 use mathlib.Core.Path.{_≡_, refl, sym, ap, _∙_}
@@ -20,7 +21,7 @@ use Rattle.maps.specs.Map.{Map, IsDart, back, sew}
 use Rattle.maps.specs.Rules.{givenBefore}
 use Rattle.maps.specs.Judged.{backsOf}
 use Rattle.maps.proofs.Least.{least-hit, least-miss, least-kept, least-none, sought, Sought, nowhere, somewhere, Tested, passes, fails, tested, some-cong, length-upTo, nth-map-upTo, nth-suc}
-use Rattle.maps.proofs.Map.{takes, sew-beta}
+use Rattle.maps.proofs.Map.{takes, sew-beta, sew-back}
 
 -- at each dart stands the least of the first k darts that β1 takes there, or 0
 pub record Backs (M : Map) (k : ℕ) (held : List ℕ) : Type 0 where
@@ -101,3 +102,13 @@ backs-whole M held b =
   where
     long : length (map (back M) (upTo 1020)) ≡ 1020
     long = length-map (upTo 1020) (back M) ∙ length-upTo 1020
+
+-- β0 of a dart, read off the array
+pub backs-sew : (M : Map) (d : ℕ) → IsDart M d → d ≤ 1020 → getD (backsOf M) (d - 1) 0 ≡ sew M 0 d
+unfolding backsOf
+backs-sew M d dart few =
+    let index : suc (d - 1) ≡ d = omega (arith, dart .0) in
+    sym (nth-suc (map (back M) (upTo 1020)) (d - 1))
+    ∙ ap (nth (map (back M) (upTo 1020))) index
+    ∙ nth-map-upTo (back M) 1020 d (dart .0) few
+    ∙ sym (sew-back M d dart)

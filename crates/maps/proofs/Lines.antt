@@ -1,23 +1,25 @@
--- Lines of a table, each with a number, that hold of some places: the verdict that shows the first that holds (01, "Numbers the display can show").
+-- The verdict of a table of lines, each with a number: it shows the first line that holds, at the least place (01, "Numbers the display can show").
 --     L k p                                 the line numbered k holds of place p
 --     Clear L a b                           no line from a to below b holds of any place
 --     First L a k p                         of the lines from a on, k is the first that holds, and p the least place that it holds of
 --     Judged L a b v                        v is the verdict of the lines from a to below b
---     judged-accepted, judged-refused       such a verdict accepts exactly when none holds, and refuses exactly by the first, at its least place
+--     judged-accepted, judged-refused       it accepts exactly when none holds, and refuses exactly by the first that holds, at its least place
+--     judged-number                         it shows 0, or the number of a line that holds
 --     judged-unless, judged-least           one line, judged by a test or by the least place
---     judged-then                           lines, and the lines after them
+--     judged-then, judged-cons              lines, or one, and the lines after them
+--     inOrder-append-..                     two lists of verdicts, one after the other
 -- Assumes nothing.
-use Prim.Native.Nat.{ℕ, suc, _+_, _≤_, _<_}
+use Prim.Native.Nat.{ℕ, suc, _≤_, _<_}
 use mathlib.Core.Path.{_≡_, refl, sym, ap, _∙_}
 use mathlib.Core.Bool.{Bool, true, false}
 use mathlib.Core.List.{List, [], _∷_, _++_}
-use mathlib.Core.Logic.{_↔_}
+use mathlib.Core.Logic.{_↔_, _⊎_, inl, inr}
 use native.Mathlib.Omega.{arith}
 use borrow.Author.Tests.{eq-eqb, ne-eqb, eqb-true, ltb-true, ltb-false}
 use lib.Dec.{eqb, ltb}
 use Rattle.maps.specs.Least.{least}
 use Rattle.maps.specs.Verdict.{Verdict, accepted, refused, accepts, unless, atLeast, inOrder}
-use Rattle.maps.proofs.Least.{Tested, passes, fails, tested, true-not-false, Found, Misses, Sought, nowhere, somewhere, sought}
+use Rattle.maps.proofs.Least.{Tested, passes, fails, tested, true-not-false, Misses, Sought, nowhere, somewhere, sought}
 use Rattle.maps.proofs.Verdict.{inOrder-append, unless-passed, unless-refused}
 
 -- no line from a to below b holds of any place
@@ -81,8 +83,8 @@ module _ (L : ℕ → ℕ → Type 0) where
         back (shown k p is low high f) d = absurd (d k p low high (f .holds))
 
     -- it refuses with k at p exactly when k is the first line that holds, and p its least place
-    pub judged-refused : (k p : ℕ) → a ≤ k → k < b → (v ≡ refused k p) ↔ First L a k p
-    judged-refused k p low high = (λ e. to judged e, λ f. back judged f)
+    pub judged-refused : ((k p : ℕ) → L k p → (a ≤ k) × (k < b)) → (k p : ℕ) → 1 ≤ k → (v ≡ refused k p) ↔ First L a k p
+    judged-refused within k p low = (λ e. to judged e, λ f. back judged (within k p (f .holds)) f)
       where
         to : Judged L a b v → v ≡ refused k p → First L a k p
         to (clear is c) e = absurd (omega (arith, number-accepted is, number-refused k p e))
@@ -91,29 +93,38 @@ module _ (L : ℕ → ℕ → Type 0) where
             let o : q ≡ p = sym (place-refused j q is) ∙ place-refused k p e in
             rw (n, o) at f
 
-        back : Judged L a b v → First L a k p → v ≡ refused k p
-        back (clear is c) f = absurd (c k p low high (f .holds))
-        back (shown j q is lj hj g) f =
-            let n : j ≡ k = first-number lj low g f in
-            let h : First L a k q = rw n at g in
-            let o : q ≡ p = first-place h f in
+        back : Judged L a b v → (a ≤ k) × (k < b) → First L a k p → v ≡ refused k p
+        back (clear is c) h f = absurd (c k p (h .0) (h .1) (f .holds))
+        back (shown j q is lj hj g) h f =
+            let n : j ≡ k = first-number lj (h .0) g f in
+            let same : First L a k q = rw n at g in
+            let o : q ≡ p = first-place same f in
             rw (n, o) at is
 
+    -- it shows 0, or the number of a line that holds
+    pub judged-number : (v .number ≡ 0) ⊎ L (v .number) (v .place)
+    judged-number = at judged
+      where
+        at : Judged L a b v → (v .number ≡ 0) ⊎ L (v .number) (v .place)
+        at (clear is c) = inl (number-accepted is)
+        at (shown k p is low high f) = inr (rw (number-refused k p is, place-refused k p is) (f .holds))
+
 module _ (L : ℕ → ℕ → Type 0) (k : ℕ) where
-  clear-one : ((p : ℕ) → ¬ L k p) → Clear L k (suc k)
+  -- a line that holds of no place
+  pub clear-one : ((p : ℕ) → ¬ L k p) → Clear L k (suc k)
   clear-one none j p low high = let e : j ≡ k = omega arith in rw e (none p)
 
   first-one : {p : ℕ} → L k p → ((q : ℕ) → q < p → ¬ L k q) → First L k k p
   first-one holds lowest = record { holds = holds; lowest = lowest; earlier = λ j q low high. absurd (omega arith) }
 
-  -- one line that holds of place 0 alone, where its test fails
-  pub judged-unless : (b : Bool) → ((p : ℕ) → L k p ↔ (p ≡ 0) × (b ≡ false)) → Judged L k (suc k) (unless b k 0)
-  judged-unless b says = at (tested b)
+  -- one line that holds of place 0, where its test fails
+  pub judged-unless : (b : Bool) → (b ≡ false → L k 0) → ((p : ℕ) → L k p → b ≡ false) → Judged L k (suc k) (unless b k 0)
+  judged-unless b holds only = at (tested b)
     where
       at : Tested b → Judged L k (suc k) (unless b k 0)
-      at (passes e) = clear (unless-passed b k 0 e) (clear-one (λ p l. true-not-false e (says p .0 l .1)))
+      at (passes e) = clear (unless-passed b k 0 e) (clear-one (λ p l. true-not-false e (only p l)))
       at (fails e) =
-          shown k 0 (unless-refused b k 0 e) (omega arith) (omega arith) (first-one (says 0 .1 (refl, e)) (λ q h. absurd (omega arith)))
+          shown k 0 (unless-refused b k 0 e) (omega arith) (omega arith) (first-one (holds e) (λ q h. absurd (omega arith)))
 
   -- one line that holds of the places from 1 to m that pass its test
   pub judged-least : (m : ℕ) (test : ℕ → Bool) → ((p : ℕ) → L k p ↔ (1 ≤ p) × (p ≤ m) × (test p ≡ true)) → Judged L k (suc k) (atLeast k (least m test))
@@ -137,6 +148,16 @@ inOrder-one v whole = at (tested (accepts v))
     at (passes e) = simp e (sym (whole e))
     at (fails e) = simp e
 
+-- a list whose answer passes has accepted
+inOrder-whole : (vs : List Verdict) → accepts (inOrder vs) ≡ true → inOrder vs ≡ accepted
+unfolding inOrder
+inOrder-whole [] e = refl
+inOrder-whole (v ∷ vs) e = at (tested (accepts v)) (inOrder-whole vs)
+  where
+    at : Tested (accepts v) → (accepts (inOrder vs) ≡ true → inOrder vs ≡ accepted) → inOrder (v ∷ vs) ≡ accepted
+    at (passes h) rest = simp h (rest (simp h at e))
+    at (fails h) rest = absurd (true-not-false (simp h at e) refl)
+
 module _ (vs ws : List Verdict) where
   pub inOrder-append-passed : inOrder vs ≡ accepted → inOrder (vs ++ ws) ≡ inOrder ws
   unfolding accepts accepted
@@ -145,6 +166,17 @@ module _ (vs ws : List Verdict) where
   pub inOrder-append-refused : (k p : ℕ) → 1 ≤ k → inOrder vs ≡ refused k p → inOrder (vs ++ ws) ≡ refused k p
   unfolding accepts refused
   inOrder-append-refused k p low is = inOrder-append vs ws ∙ simp (is, ne-eqb k 0 (λ z. omega arith))
+
+  -- two lists accept exactly when each does
+  pub inOrder-append-accepted : (inOrder (vs ++ ws) ≡ accepted) ↔ (inOrder vs ≡ accepted) × (inOrder ws ≡ accepted)
+  unfolding accepts accepted
+  inOrder-append-accepted = (λ e. at (tested (accepts (inOrder vs))) e, λ h. inOrder-append-passed (h .0) ∙ h .1)
+    where
+      at : Tested (accepts (inOrder vs)) → inOrder (vs ++ ws) ≡ accepted → (inOrder vs ≡ accepted) × (inOrder ws ≡ accepted)
+      at (passes h) e = let is = inOrder-whole vs h in (is, sym (inOrder-append-passed is) ∙ e)
+      at (fails h) e =
+          let kept : inOrder (vs ++ ws) ≡ inOrder vs = inOrder-append vs ws ∙ simp h in
+          absurd (true-not-false (ap accepts (sym kept ∙ e)) h)
 
 -- no line up to b, and none from there on
 clear-join : (L : ℕ → ℕ → Type 0) {a b c : ℕ} → Clear L a b → Clear L b c → Clear L a c
@@ -155,6 +187,7 @@ clear-join L {a} {b} {c} low high k p from below = at (tested (ltb k b))
     at (fails h) = high k p (ltb-false k b h) below
 
 module _ (L : ℕ → ℕ → Type 0) {a b : ℕ} (from : 1 ≤ a) where
+  -- a verdict with number 0 has place 0
   judged-whole : {v : Verdict} → Judged L a b v → accepts v ≡ true → v ≡ accepted
   unfolding accepts
   judged-whole (clear is c) e = is
@@ -174,6 +207,7 @@ module _ (L : ℕ → ℕ → Type 0) {a b : ℕ} (from : 1 ≤ a) where
       at (clear is none) = after none is (next none)
       at (shown k p is low high f) = shown k p (inOrder-append-refused vs ws k p (omega arith) is) low (omega arith) f
 
+  -- one verdict, as a list
   pub judged-one : {v : Verdict} → Judged L a b v → Judged L a b (inOrder (v ∷ []))
   judged-one {v} j = rw (inOrder-one v (judged-whole j)) j
 

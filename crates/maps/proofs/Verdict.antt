@@ -1,6 +1,7 @@
 -- The laws of `specs/Verdict.antt`: the first verdict that refuses, and verdicts by tests.
 --     inOrder-passed, inOrder-refused     the first verdict of a list accepts, or is the answer
 --     inOrder-append                      a list after another: judged where the first list accepts
+--     inOrder-accepts                     a list that accepts is accepted, at place 0
 --     unless-passed, unless-refused       a verdict by a test
 --     atLeast-none, atLeast-some          a verdict by the least wrong place
 -- Assumes nothing.
@@ -13,7 +14,7 @@ use borrow.Author.Tests.{eq-eqb, ne-eqb, eqb-true}
 use lib.Dec.{eqb, leb}
 use Rattle.maps.specs.Verdict.{Verdict, accepted, refused, accepts, unless, atLeast, inOrder}
 use Rattle.maps.specs.Rules.{judgeRoom}
-use Rattle.maps.proofs.Least.{Tested, passes, fails, tested}
+use Rattle.maps.proofs.Least.{Tested, passes, fails, tested, true-not-false}
 
 module _ (v : Verdict) (vs : List Verdict) where
   pub inOrder-passed : accepts v ≡ true → inOrder (v ∷ vs) ≡ inOrder vs
@@ -48,3 +49,13 @@ room-accepts needed room = at (tested (leb needed room))
     at : Tested (leb needed room) → leb needed room ≡ accepts (inOrder (judgeRoom needed room ∷ []))
     at (passes e) = simp e
     at (fails e) = simp e
+
+-- a list that accepts is accepted, at place 0
+pub inOrder-accepts : (vs : List Verdict) → accepts (inOrder vs) ≡ true → inOrder vs ≡ accepted
+unfolding inOrder
+inOrder-accepts [] e = refl
+inOrder-accepts (v ∷ vs) e = at (tested (accepts v)) (inOrder-accepts vs)
+  where
+    at : Tested (accepts v) → (accepts (inOrder vs) ≡ true → inOrder vs ≡ accepted) → inOrder (v ∷ vs) ≡ accepted
+    at (passes a) rest = simp a (rest (simp a at e))
+    at (fails a) rest = absurd (true-not-false (sym (ap accepts (inOrder-refused v vs a)) ∙ e) a)

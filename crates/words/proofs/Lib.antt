@@ -5,3 +5,8 @@ pub mod Order
 pub mod Carried
 pub mod Labels
 pub mod Theorems
+pub mod Lexicographic
+pub mod Standing
+pub mod Racing
+pub mod Starts
+pub mod Answers

@@ -1,5 +1,6 @@
 -- What the signature call answers and what it leaves in its output, for every input (01, "Numbers the display can show").
 --     SignatureAnswer     number, place, start and symmetries, as the display shows them
+--     signedOf, shownSigned     the answer of `src/` for these numbers, and its numbers
 --     signatureAnswer     the answer, of n, m, the table and the output's length
 --     signatureOutput     the output's contents afterwards
 --     over w out          out with w in its first places: nothing beyond is written
@@ -7,18 +8,30 @@
 use Prim.Native.Nat.{ℕ, _*_}
 use mathlib.Core.Bool.{cond}
 use mathlib.Core.List.{List, [], _∷_, _++_}
+use lib.Dec.{eqb}
 use lib.ListN.{length, drop}
 use Rattle.maps.specs.Map.{tableMap}
 use Rattle.maps.specs.Verdict.{Verdict, accepts}
 use Rattle.maps.specs.Rules.{judgeRoom}
 use Rattle.labels.specs.Check.{judgeTable}
 use Rattle.words.specs.Words.{signature, start, symmetries}
+use Rattle.words.specs.declared.Signed.{Signed}
+use Rattle.words.specs.declared.Signed.the-variants.{Word, Refused}
 
 pub record SignatureAnswer : Type 0 where
   pub number : ℕ
   pub place : ℕ
   pub start : ℕ
   pub symmetries : ℕ
+
+-- the answer that stands for these numbers: what the contract promises, so that no second answer fits
+unfoldable pub signedOf : SignatureAnswer → Signed
+signedOf a = cond (eqb (a .number) 0) (Word (a .start) (a .symmetries)) (Refused (a .number) (a .place))
+
+-- the numbers that an answer stands for
+unfoldable pub shownSigned : Signed → SignatureAnswer
+shownSigned (Word s k) = record { number = 0; place = 0; start = s; symmetries = k }
+shownSigned (Refused k p) = record { number = k; place = p; start = 0; symmetries = 0 }
 
 -- 4: "output shorter than n·m (signature)"
 unfoldable pub judgeSignature : ℕ → ℕ → List ℕ → ℕ → Verdict

@@ -4,7 +4,7 @@
 --     signing-..          what an accepting verdict gives: an accepted map, a table in shape, an output that is long enough
 --     signed-run          what the run has found, copied to the output, is the answer
 --     signed-only         no second answer fits
---     shown-signed        an answer's numbers are those of the definition
+--     shown-signed, shown-answer     an answer's numbers are those of the definition
 -- Assumes nothing.
 use Prim.Native.Nat.{ℕ, _*_, _≤_}
 use mathlib.Core.Path.{_≡_, refl, sym, ap, _∙_}
@@ -109,3 +109,17 @@ shown-signed a clean none = at (tested (eqb (a .number) 0))
     at (fails e) =
         let rest = none (eqb-false (a .number) 0 e) in
         simp e (λ i. record { number = a .number; place = a .place; start = sym (rest .0) i; symmetries = sym (rest .1) i })
+
+-- the numbers of the call's answer are the definition's
+pub shown-answer : (n m : ℕ) (t : List ℕ) (room : ℕ) → shownSigned (signedOf (signatureAnswer n m t room)) ≡ signatureAnswer n m t room
+unfolding signatureAnswer accepts
+shown-answer n m t room = shown-signed (signatureAnswer n m t room) (at (tested (eqb (v .number) 0))) (at-refused (tested (eqb (v .number) 0)))
+  where
+    v : Verdict
+    v = judgeSignature n m t room
+    at : Tested (eqb (v .number) 0) → signatureAnswer n m t room .number ≡ 0 → signatureAnswer n m t room .place ≡ 0
+    at (passes e) zero = simp e
+    at (fails e) zero = absurd (eqb-false (v .number) 0 e (simp e at zero))
+    at-refused : Tested (eqb (v .number) 0) → (signatureAnswer n m t room .number ≡ 0 → ⊥) → (signatureAnswer n m t room .start ≡ 0) × (signatureAnswer n m t room .symmetries ≡ 0)
+    at-refused (passes e) some = absurd (some (simp e))
+    at-refused (fails e) some = (simp e, simp e)

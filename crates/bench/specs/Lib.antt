@@ -1,0 +1,2 @@
+-- What the reading of a case promises.
+pub mod Fits

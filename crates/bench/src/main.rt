@@ -1,0 +1,130 @@
+// Reads cases from standard input, in the form of tests/CASES.md, and prints the line of each.
+// Of the calls there it answers `check`. Any other call, and a line that is malformed or too long, prints `?`.
+mod print;
+mod read;
+
+use libc::STDIN_FILENO;
+use libc::STDOUT_FILENO;
+use maps::Judged;
+use read::Cursor;
+use read::Map;
+use read::Step;
+
+fn copy(line: &[u8]) {
+    io::write_all(STDOUT_FILENO, line);
+    io::write_all(STDOUT_FILENO, b"\n");
+}
+
+fn refuse() {
+    io::write_all(STDOUT_FILENO, b"?\n");
+}
+
+fn number_of(judged: Judged) -> u64 {
+    match judged {
+        Judged::Passed => 0,
+        Judged::Refused { number, place: _ } => number as u64,
+    }
+}
+
+fn place_of(judged: Judged) -> u64 {
+    match judged {
+        Judged::Passed => 0,
+        Judged::Refused { number: _, place } => place as u64,
+    }
+}
+
+fn print_judged(judged: Judged) {
+    let mut out = [0u8; 4096];
+    let number = print::decimal(&mut out, 0, number_of(judged));
+    let space = print::byte(&mut out, number, b' ');
+    let place = print::decimal(&mut out, space, place_of(judged));
+    print::newline(&mut out, place);
+}
+
+// `check N M TABLE`, and nothing after it.
+fn answer_check(line: &[u8]) {
+    let Step::To(word) = Cursor::start().word(line, b"check") else {
+        return refuse();
+    };
+    // A table may have more numbers than the 1,020 of the longest map, and is then judged all the same.
+    let mut table = [0u16; 2048];
+    let Map::Read { n, m, length, next } = word.map(line, &mut table) else {
+        return refuse();
+    };
+    if next.at != line.len() {
+        return refuse();
+    }
+    print_judged(labels::check(n, m, &table[0..length]));
+}
+
+// The call is told by its first letter, and its word is read by what answers it.
+fn answer(line: &[u8]) {
+    if line.len() == 0 {
+        return copy(line);
+    }
+    match line[0] {
+        b'#' => copy(line),
+        b'c' => answer_check(line),
+        _ => refuse(),
+    }
+}
+
+// A line at its end. A length above the buffer's stands for a line that did not fit.
+fn end_line(line: &[u8], length: usize) {
+    if line.len() < length {
+        return refuse();
+    }
+    answer(&line[0..length]);
+}
+
+// One byte of the input. Answers the length of the line that is under way after it.
+fn take_byte(line: &mut [u8; 16384], length: usize, byte: u8) -> usize {
+    if byte == b'\n' {
+        end_line(line, length);
+        return 0;
+    }
+    if length < 16384 {
+        line[length] = byte;
+        return length + 1;
+    }
+    16385
+}
+
+fn take_bytes(line: &mut [u8; 16384], length: usize, bytes: &[u8]) -> usize {
+    let mut under_way = length;
+    let mut i = 0;
+    while i < bytes.len() {
+        under_way = take_byte(line, under_way, bytes[i]);
+        i += 1;
+    }
+    under_way
+}
+
+// Takes what one reading of the input gives, and answers whether it gave anything. A reading that fails ends the input.
+fn take_some(line: &mut [u8; 16384], length: &mut usize) -> bool {
+    let mut bytes = io::large_buffer();
+    let count = io::read_full(STDIN_FILENO, &mut bytes);
+    if count == 0 {
+        return false;
+    }
+    *length = take_bytes(line, *length, &bytes[..count]);
+    true
+}
+
+// Nothing says that the input ends, so the readings are counted down from a number that no run uses up.
+fn take_all(line: &mut [u8; 16384]) {
+    let mut length = 0;
+    let mut turns = u64::MAX;
+    while turns > 0 && take_some(line, &mut length) {
+        turns -= 1;
+    }
+    // The last line may lack its newline.
+    if 0 < length {
+        end_line(line, length);
+    }
+}
+
+fn main() {
+    let mut line = [0u8; 16384];
+    take_all(&mut line);
+}

@@ -1,0 +1,2 @@
+-- What the calls of the C boundary promise.
+pub mod Boundary

@@ -1,5 +1,7 @@
 // Reads cases from standard input, in the form of tests/CASES.md, and prints the line of each.
-// Of the calls there it answers `check`. Any other call, and a line that is malformed or too long, prints `?`.
+// It answers `check` and `sign`. Any other call, a line that is malformed or too long, and a list of more than 2,048 numbers print `?`.
+ghost use Prim.Native.Nat.{_≤_};
+
 mod print;
 mod read;
 
@@ -8,7 +10,9 @@ use libc::STDOUT_FILENO;
 use maps::Judged;
 use read::Cursor;
 use read::Map;
+use read::Numbers;
 use read::Step;
+use words::Signed;
 
 fn copy(line: &[u8]) {
     io::write_all(STDOUT_FILENO, line);
@@ -33,12 +37,18 @@ fn place_of(judged: Judged) -> u64 {
     }
 }
 
+// The number and the place, from the start of the buffer. Answers where the next byte goes.
+fn put_judged(out: &mut [u8; 4096], judged: Judged) -> usize
+    ensures { λ r. ⌜ r ≤ 4096 ⌝ }
+{
+    let number = print::decimal(out, 0, number_of(judged));
+    print::spaced(out, number, place_of(judged))
+}
+
 fn print_judged(judged: Judged) {
     let mut out = [0u8; 4096];
-    let number = print::decimal(&mut out, 0, number_of(judged));
-    let space = print::byte(&mut out, number, b' ');
-    let place = print::decimal(&mut out, space, place_of(judged));
-    print::newline(&mut out, place);
+    let end = put_judged(&mut out, judged);
+    print::newline(&mut out, end);
 }
 
 // `check N M TABLE`, and nothing after it.
@@ -57,6 +67,81 @@ fn answer_check(line: &[u8]) {
     print_judged(labels::check(n, m, &table[0..length]));
 }
 
+// A refusal has no start and no symmetries, and 0 is printed for each.
+fn start_of(signed: Signed) -> u64 {
+    match signed {
+        Signed::Word {
+            start,
+            symmetries: _,
+        } => start as u64,
+        Signed::Refused {
+            number: _,
+            place: _,
+        } => 0,
+    }
+}
+
+fn symmetries_of(signed: Signed) -> u64 {
+    match signed {
+        Signed::Word {
+            start: _,
+            symmetries,
+        } => symmetries as u64,
+        Signed::Refused {
+            number: _,
+            place: _,
+        } => 0,
+    }
+}
+
+fn judged_of(signed: Signed) -> Judged {
+    match signed {
+        Signed::Word {
+            start: _,
+            symmetries: _,
+        } => Judged::Passed,
+        Signed::Refused { number, place } => Judged::Refused { number, place },
+    }
+}
+
+fn print_signed(signed: Signed, output: &[u16]) {
+    let mut out = [0u8; 4096];
+    let judged = put_judged(&mut out, judged_of(signed));
+    let start = print::spaced(&mut out, judged, start_of(signed));
+    let symmetries = print::spaced(&mut out, start, symmetries_of(signed));
+    let space = print::byte(&mut out, symmetries, b' ');
+    let list = print::list(&mut out, space, output);
+    print::newline(&mut out, list);
+}
+
+fn sign(n: usize, m: usize, table: &[u16], output: &mut [u16]) {
+    let signed = words::signature(n, m, table, output);
+    print_signed(signed, output);
+}
+
+// `sign N M TABLE OUTPUT`, and nothing after it.
+fn answer_sign(line: &[u8]) {
+    let Step::To(word) = Cursor::start().word(line, b"sign") else {
+        return refuse();
+    };
+    let mut table = [0u16; 2048];
+    let Map::Read { n, m, length, next } = word.map(line, &mut table) else {
+        return refuse();
+    };
+    let mut output = [0u16; 2048];
+    let Numbers::Read {
+        length: room,
+        next: end,
+    } = next.list(line, &mut output)
+    else {
+        return refuse();
+    };
+    if end.at != line.len() {
+        return refuse();
+    }
+    sign(n, m, &table[0..length], &mut output[0..room]);
+}
+
 // The call is told by its first letter, and its word is read by what answers it.
 fn answer(line: &[u8]) {
     if line.len() == 0 {
@@ -65,6 +150,7 @@ fn answer(line: &[u8]) {
     match line[0] {
         b'#' => copy(line),
         b'c' => answer_check(line),
+        b's' => answer_sign(line),
         _ => refuse(),
     }
 }

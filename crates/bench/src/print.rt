@@ -1,5 +1,5 @@
 // Numbers as text, gathered in a buffer that is written out where it is full and at the end of a line.
-ghost use Prim.Native.Nat.{_≤_};
+ghost use Prim.Native.Nat.{_≤_, _<_};
 ghost use lib.ListN.{length};
 use libc::STDOUT_FILENO;
 
@@ -51,4 +51,75 @@ pub fn newline(out: &mut [u8; 4096], at: usize)
 {
     let end = byte(out, at, b'\n');
     flush(out, end);
+}
+
+fn wide(x: u16) -> u64 {
+    x as u64
+}
+
+// A space and a number.
+pub fn spaced(out: &mut [u8; 4096], at: usize, n: u64) -> usize
+    requires { ⌜ at ≤ 4096 ⌝ }
+    ensures { λ r. ⌜ r ≤ 4096 ⌝ }
+{
+    let to = byte(out, at, b' ');
+    decimal(out, to, n)
+}
+
+// Where the run of equal numbers from `from` on ends.
+fn run_end(numbers: &[u16], from: usize) -> usize
+    requires { ⌜ from < length (now numbers) ⌝ }
+    ensures { λ r. ⌜ (from < r) × (r ≤ length (now (numbers .entry))) ⌝ }
+{
+    let value = numbers[from];
+    let mut end = from + 1;
+    while end < numbers.len() {
+        if numbers[end] != value {
+            return end;
+        }
+        end += 1;
+    }
+    end
+}
+
+// A number that stands fewer than four times in a row, one by one.
+fn repeated(out: &mut [u8; 4096], at: usize, n: u64, times: usize) -> usize
+    requires { ⌜ at ≤ 4096 ⌝ }
+    ensures { λ r. ⌜ r ≤ 4096 ⌝ }
+{
+    let mut to = at;
+    let mut i = 0;
+    while i < times {
+        to = spaced(out, to, n);
+        i += 1;
+    }
+    to
+}
+
+// A number and how often it stands in a row: `V*K` from four times on.
+fn run(out: &mut [u8; 4096], at: usize, n: u64, times: usize) -> usize
+    requires { ⌜ at ≤ 4096 ⌝ }
+    ensures { λ r. ⌜ r ≤ 4096 ⌝ }
+{
+    if times < 4 {
+        return repeated(out, at, n, times);
+    }
+    let value = spaced(out, at, n);
+    let star = byte(out, value, b'*');
+    decimal(out, star, times as u64)
+}
+
+// A list: its length and its numbers, by runs.
+pub fn list(out: &mut [u8; 4096], at: usize, numbers: &[u16]) -> usize
+    requires { ⌜ at ≤ 4096 ⌝ }
+    ensures { λ r. ⌜ r ≤ 4096 ⌝ }
+{
+    let mut to = decimal(out, at, numbers.len() as u64);
+    let mut from = 0;
+    while from < numbers.len() {
+        let end = run_end(numbers, from);
+        to = run(out, to, wide(numbers[from]), end - from);
+        from = end;
+    }
+    to
 }

@@ -111,12 +111,12 @@ module _ {M M′ : Map} {f : List ℕ} (m : Matching M M′ f) (o : OpenMap M) (
       let q = served M d k in
       rw (served-carried d h k, nth-composed q f (suc k)) (serve-carried (served-within o d h k) (nth q (suc k)))
 
-  -- 000, theorem 1, claim 1: the labelling from f(d) is f of the labelling from d
+  -- 000, theorem 1, claim 2: the labelling from f(d) is f of the labelling from d
   pub labelling-carried : (d : ℕ) → d ≤ M .darts → labelling M′ (nth f d) ≡ map (nth f) (labelling M d)
   unfolding labelling
   labelling-carried d h = ap (served M′ (nth f d)) (sym (m .same-darts)) ∙ served-carried d h (M .darts)
 
-  -- f(e) has from f(d) the label that e has from d
+  -- 000, theorem 1, claim 1: f(e) has from f(d) the label that e has from d
   pub labels-carried : (d e : ℕ) → d ≤ M .darts → e ≤ M .darts → labelIn (labelling M′ (nth f d)) (nth f e) ≡ labelIn (labelling M d) e
   labels-carried d e hd he = rw (labelling-carried d hd) (labelIn-carried m (labelling-within o d hd) e he)
 

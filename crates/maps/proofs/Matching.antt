@@ -1,4 +1,4 @@
--- The laws of `specs/Matching.antt`: matchings compose and turn round, and acceptance passes along one (DESIGN, theorem 7).
+-- The laws of `specs/Matching.antt`: matchings compose and turn round, and acceptance passes along one (theorem 7).
 --     stands                        a number is 0, a dart, or past the darts
 --     image-most, image-zero, image-same, image-dart, onto-all
 --                                   f on the darts and 0: it goes into them, is 0 at 0 alone, tells them apart, and meets each

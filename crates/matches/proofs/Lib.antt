@@ -1,2 +1,4 @@
 -- What is proved of the definitions of this crate.
 pub mod Bench
+pub mod Chains
+pub mod Readings

@@ -1,6 +1,5 @@
 // The C boundary: the calls that the camera's program makes, on numbers and slices. include/duftheim.h declares them.
 ghost use Rattle.reader.specs.Boundary.{SignedAs};
-
 use words::Signed;
 
 // The answer of the signature call, as C sees it: number 0 where the map is accepted.
@@ -13,7 +12,12 @@ pub struct DuftheimSigned {
 }
 
 #[no_mangle]
-pub extern "C" fn duftheim_signature(n: usize, m: usize, table: &[u16], output: &mut [u16]) -> DuftheimSigned
+pub extern "C" fn duftheim_signature(
+    n: usize,
+    m: usize,
+    table: &[u16],
+    output: &mut [u16],
+) -> DuftheimSigned
     ensures { λ r. ⌜ SignedAs n m (now (table .entry)) (now (output .entry)) r (now (output .exit)) ⌝ }
 {
     let signed = words::signature(n, m, table, output);

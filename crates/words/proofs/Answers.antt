@@ -117,9 +117,11 @@ shown-answer n m t room = shown-signed (signatureAnswer n m t room) (at (tested 
   where
     v : Verdict
     v = judgeSignature n m t room
+
     at : Tested (eqb (v .number) 0) → signatureAnswer n m t room .number ≡ 0 → signatureAnswer n m t room .place ≡ 0
     at (passes e) zero = simp e
     at (fails e) zero = absurd (eqb-false (v .number) 0 e (simp e at zero))
+
     at-refused : Tested (eqb (v .number) 0) → (signatureAnswer n m t room .number ≡ 0 → ⊥) → (signatureAnswer n m t room .start ≡ 0) × (signatureAnswer n m t room .symmetries ≡ 0)
     at-refused (passes e) some = absurd (some (simp e))
     at-refused (fails e) some = (simp e, simp e)

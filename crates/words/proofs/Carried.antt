@@ -1,4 +1,4 @@
--- A matching carries words along (DESIGN, theorem 5; 000, theorem 1, forward).
+-- A matching carries words along (theorem 5; 000, theorem 1, forward).
 --     row-carried      the row of f(e) by f of the queue is the row of e by the queue
 --     word-carried     word M d ≡ word M′ (f d)
 -- Assumes nothing.

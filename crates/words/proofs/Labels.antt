@@ -1,4 +1,4 @@
--- Labels as darts of a word, for theorems 4 and 6 of DESIGN: what a labelling does as a function of the darts.
+-- Labels as darts of a word, for theorems 4 and 6: what a labelling does as a function of the darts.
 --     readAs M w                   the map that the word w writes down, of the size of M
 --     labels-matches               a dart goes to its label in the word read as a table
 --     SameWord M d M′ d′           accepted maps of one dimension have the same word, from d and from d′
@@ -20,12 +20,9 @@ use Rattle.maps.proofs.Matching.{Stands, nothing, dart, past, stands, Matches}
 use Rattle.labels.specs.Labelling.{labelIn, labelling}
 use Rattle.labels.proofs.Queue.{queue-zero, labelling-queue}
 use Rattle.labels.proofs.Reached.{Numbering, labelling-numbers}
+use Rattle.words.specs.Theorems.{readAs}
 use Rattle.words.specs.Words.{word}
 use Rattle.words.proofs.Words.{length-word, nth-word}
-
--- the map that the word w writes down, of the size of M
-abbrev pub readAs : Map → List ℕ → Map
-readAs M w = tableMap (M .dim) (M .darts) w
 
 -- the dart of M′ that has from d′ the label that e has from d
 unfoldable pub withLabel : Map → ℕ → Map → ℕ → ℕ → ℕ

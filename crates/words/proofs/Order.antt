@@ -22,6 +22,7 @@ use lib.Dec.{eqb, ltb}
 use Rattle.maps.specs.Map.{Map, IsDart}
 use Rattle.maps.proofs.Least.{Tested, passes, fails, tested, true-not-false, Found, passes-some, some-found}
 use Rattle.maps.proofs.Count.{count-le, count-passed}
+use Rattle.words.specs.Theorems.{Covers}
 use Rattle.words.specs.Words.{word, same, less, lesser, leastWord, signature, yields, start, symmetries}
 
 -- a test of two tests
@@ -187,10 +188,6 @@ module _ (M : Map) where
   leastWord-is k d low high none =
       let e = leastWord-one k (omega arith) in
       less-neither (leastWord M k) (word M d) (rw (e .3) (none (e .0) (e .1) (e .2))) (leastWord-least k d low high)
-
--- each word of a start of M is a word of a start of M′
-abbrev pub Covers : Map → Map → Type 0
-Covers M M′ = (d : ℕ) → IsDart M d → (e : ℕ) × IsDart M′ e × (word M d ≡ word M′ e)
 
 -- maps with the same words have the same signature
 pub signature-same : (M M′ : Map) → 1 ≤ M .darts → Covers M M′ → Covers M′ M → signature M ≡ signature M′

@@ -15,12 +15,12 @@ use borrow.Author.Tests.{eq-eqb, ne-eqb, eqb-true, eqb-false, ltb-true, ltb-fals
 use lib.Dec.{eqb, ltb}
 use lib.ListN.{length, getD, set, take, drop, length-set, take-append-drop}
 use lib.Seq.{take-suc, drop-drop, take-suc-set, drop-set-lt, getD-take, take-take, length-take-le, take-length}
-use Rattle.maps.proofs.Least.{Tested, passes, fails, tested, true-not-false}
-use Rattle.words.specs.Words.{same, less, lesser}
+use Rattle.maps.proofs.Least.{Tested, passes, fails, tested}
+use Rattle.words.specs.Words.{less, lesser}
 use Rattle.words.specs.Sign.{over}
 use Rattle.words.specs.Racing.{sideOf, sideAfter, Wrote}
 use Rattle.words.proofs.Lexicographic.{less-at}
-use Rattle.words.proofs.Order.{same-equal, equal-same, less-irreflexive, less-transitive}
+use Rattle.words.proofs.Starts.{less-side, same-side, greater-side, lesser-less, lesser-same, lesser-greater}
 
 -- p numbers of W are judged against what `held₀` holds: side 0 where they are the same, 1 where W is less and is being written
 pub record Standing (W held₀ held : List ℕ) (side p : ℕ) : Type 0 where
@@ -163,36 +163,6 @@ module _ {W held₀ held : List ℕ} {side p : ℕ} (s : Standing W held₀ held
               (less-at best W p (rw best-long inside) inside (tied-best tie) higher, wrote-not (λ z. omega (arith, is)) ∙ tie)
           at (keeps other same is) = absurd (omega (arith, is, up))
 
--- how a word comes out against another, by the order
-module _ (W B : List ℕ) where
-  pub less-lesser : less W B ≡ true → (sideOf W B ≡ 1) × (lesser B W ≡ W)
-  unfolding sideOf lesser
-  less-lesser e = (simp e, simp e)
-
-  pub same-lesser : W ≡ B → (sideOf W B ≡ 0) × (lesser B W ≡ B)
-  unfolding sideOf lesser
-  same-lesser e =
-      let not : less W B ≡ false = rw e (less-irreflexive B) in
-      (simp (not, equal-same W B e), simp not)
-
-  pub greater-lesser : less B W ≡ true → (sideOf W B ≡ 2) × (lesser B W ≡ B)
-  unfolding sideOf lesser
-  greater-lesser e = (simp (not, differ), simp not)
-    where
-      not : less W B ≡ false
-      not = at (tested (less W B))
-        where
-          at : Tested (less W B) → less W B ≡ false
-          at (fails f) = f
-          at (passes t) = absurd (true-not-false (less-transitive W B W t e) (less-irreflexive W))
-
-      differ : same W B ≡ false
-      differ = at (tested (same W B))
-        where
-          at : Tested (same W B) → same W B ≡ false
-          at (fails f) = f
-          at (passes t) = absurd (true-not-false (rw (same-equal W B t) at e) (less-irreflexive B))
-
 -- the first numbers written over themselves change nothing
 over-take : (k : ℕ) (held : List ℕ) → k ≤ length held → over (take k held) held ≡ held
 unfolding over
@@ -202,8 +172,10 @@ over-take k held fits = rw (length-take-le k held fits) (take-append-drop k held
 module _ (W held₀ held : List ℕ) (fits : length W ≤ length held₀) where
   pub greater-end : (less (take (length W) held₀) W ≡ true) × (held ≡ held₀) → (2 ≡ sideOf W (take (length W) held₀)) × (held ≡ over (lesser (take (length W) held₀) W) held₀)
   greater-end g =
-      let out = greater-lesser W (take (length W) held₀) (g .0) in
-      (sym (out .0), g .1 ∙ sym (ap (λ (l : List ℕ). over l held₀) (out .1) ∙ over-take (length W) held₀ fits))
+      let B = take (length W) held₀ in (
+        sym (greater-side W B (g .0)),
+        g .1 ∙ sym (ap (λ (l : List ℕ). over l held₀) (lesser-greater W B (g .0)) ∙ over-take (length W) held₀ fits),
+      )
 
   pub standing-end : (side : ℕ) → Standing W held₀ held side (length W) → (side ≡ sideOf W (take (length W) held₀)) × (held ≡ over (lesser (take (length W) held₀) W) held₀)
   unfolding over
@@ -214,18 +186,17 @@ module _ (W held₀ held : List ℕ) (fits : length W ≤ length held₀) where
 
       at : Tested (eqb side 1) → (side ≡ sideOf W (take (length W) held₀)) × (held ≡ over (lesser (take (length W) held₀) W) held₀)
       at (passes one) =
-          let is : side ≡ 1 = eqb-true side 1 one in
-          let out = less-lesser W (take (length W) held₀) (s .won is) in (
-            is ∙ sym (out .0),
+          let is : side ≡ 1 = eqb-true side 1 one in (
+            is ∙ sym (less-side W (take (length W) held₀) (s .won is)),
             sym (take-append-drop (length W) held)
                 ∙ ap (λ (l : List ℕ). l ++ drop (length W) held) whole
                 ∙ ap (λ (l : List ℕ). W ++ l) (s .rest)
-                ∙ sym (ap (λ (l : List ℕ). over l held₀) (out .1)),
+                ∙ sym (ap (λ (l : List ℕ). over l held₀) (lesser-less W (take (length W) held₀) (s .won is))),
           )
       at (fails other) =
           let tie : side ≡ 0 = omega (arith, s .low, eqb-false side 1 other) in
           let same-held : held ≡ held₀ = s .tied tie in
-          let out = same-lesser W (take (length W) held₀) (sym whole ∙ ap (take (length W)) same-held) in (
-            tie ∙ sym (out .0),
-            same-held ∙ sym (ap (λ (l : List ℕ). over l held₀) (out .1) ∙ over-take (length W) held₀ fits),
+          let same-word : W ≡ take (length W) held₀ = sym whole ∙ ap (take (length W)) same-held in (
+            tie ∙ sym (same-side W (take (length W) held₀) same-word),
+            same-held ∙ sym (ap (λ (l : List ℕ). over l held₀) (lesser-same W (take (length W) held₀) same-word) ∙ over-take (length W) held₀ fits),
           )

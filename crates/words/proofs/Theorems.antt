@@ -1,4 +1,4 @@
--- What words and signatures say of maps: theorems 4 to 9 of DESIGN, and 000, theorems 1 and 2 and definition 9.
+-- What words and signatures say of maps (theorems 4 to 9 of docs/PROMISES.md; 000, theorems 1 and 2 and definition 9).
 --     labels-matching         4: the labelling is a matching of the map with its word, read as a dart table
 --     words-matching          6: equal words give a matching, the one that keeps labels
 --     words-matching-only     6: and no other takes d to d′
@@ -23,10 +23,11 @@ use Rattle.maps.proofs.Matching.{matching-by, accepted-carried}
 use Rattle.labels.specs.Labelling.{labelIn, labelling}
 use Rattle.labels.proofs.Queue.{labelling-start, labelling-first}
 use Rattle.labels.proofs.Carried.{matching-by-one}
+use Rattle.words.specs.Theorems.{readAs, Covers, SameWords, SharedWord, SameSignature}
 use Rattle.words.specs.Words.{word, signature, start}
-use Rattle.words.proofs.Order.{Covers, signature-same, start-dart, start-word, start-least}
+use Rattle.words.proofs.Order.{signature-same, start-dart, start-word, start-least}
 use Rattle.words.proofs.Carried.{word-carried}
-use Rattle.words.proofs.Labels.{readAs, withLabel, numbers, labels-matches, SameWord, label-matches}
+use Rattle.words.proofs.Labels.{withLabel, numbers, labels-matches, SameWord, label-matches}
 
 -- the labels of the darts 1 to m from d
 unfoldable pub labelsFrom : Map → ℕ → List ℕ
@@ -76,15 +77,8 @@ module _ {M : Map} {d : ℕ} {M′ : Map} {d′ : ℕ} (s : SameWord M d M′ d�
   pub words-matching-only : {g : List ℕ} → Matching M M′ g → nth g d ≡ d′ → g ≡ byLabels M d M′ d′
   words-matching-only m to = matching-by-one (s .accepted) m words-matching d (s .start) (to ∙ sym words-start)
 
--- M and M′ share a word
-abbrev pub SharedWord : Map → Map → Type 0
-SharedWord M M′ = (d d′ : ℕ) × IsDart M d × IsDart M′ d′ × (word M d ≡ word M′ d′)
-
--- 000, definition 7: M and M′ have the same set of words
-abbrev pub SameWords : Map → Map → Type 0
-SameWords M M′ = Covers M M′ × Covers M′ M
-
 module _ {M M′ : Map} (a : Accepted M) (a′ : Accepted M′) where
+  -- a word that they share gives a matching
   shared-matched : M .dim ≡ M′ .dim → SharedWord M M′ → Matched M M′
   unfolding Matched
   shared-matched same-dim w = (byLabels M (w .0) M′ (w .1), words-matching s)
@@ -101,6 +95,7 @@ module _ {M M′ : Map} (a : Accepted M) (a′ : Accepted M′) where
           let d = m .onto e h in
           (d .0, d .1, ap (word M′) (sym (d .2)) ∙ sym (word-carried m a (d .0) (d .1)))
 
+  -- maps of the same words share the word from dart 1
   words-shared : SameWords M M′ → SharedWord M M′
   words-shared w =
       let one : IsDart M 1 = (le-refl 1, a .bounds .darts-least) in
@@ -118,18 +113,18 @@ module _ {M M′ : Map} (a : Accepted M) (a′ : Accepted M′) where
       let some′ = a′ .bounds .darts-least in
       (start M, start M′, start-dart M some, start-dart M′ some′, start-word M some ∙ same ∙ sym (start-word M′ some′))
 
-  -- 5 and 6; 000, theorem 1: maps of one dimension have a matching exactly when they share a word
-  pub word-complete : M .dim ≡ M′ .dim → SharedWord M M′ ↔ Matched M M′
+  -- 5 and 6: maps of one dimension have a matching exactly when they share a word
+  pub word-complete : M .dim ≡ M′ .dim → Matched M M′ ↔ SharedWord M M′
   unfolding Matched
-  word-complete same-dim = (shared-matched same-dim, λ m. words-shared (words-carried (m .1)))
+  word-complete same-dim = (λ m. words-shared (words-carried (m .1)), shared-matched same-dim)
 
-  -- 000, theorem 2: and exactly when all their words are the same
-  pub words-complete : M .dim ≡ M′ .dim → SameWords M M′ ↔ Matched M M′
+  -- and exactly when all their words are the same
+  pub words-complete : M .dim ≡ M′ .dim → Matched M M′ ↔ SameWords M M′
   unfolding Matched
-  words-complete same-dim = (λ w. shared-matched same-dim (words-shared w), λ m. words-carried (m .1))
+  words-complete same-dim = (λ m. words-carried (m .1), λ w. shared-matched same-dim (words-shared w))
 
-  -- 8; 000, theorem 2 and definition 9: dimension, dart count and signature are equal exactly when a matching exists
-  pub signature-complete : ((M .dim ≡ M′ .dim) × (M .darts ≡ M′ .darts) × (signature M ≡ signature M′)) ↔ Matched M M′
+  -- 8: dimension, dart count and signature are equal exactly when a matching exists (the dart count follows from the other two)
+  pub signature-complete : SameSignature M M′ ↔ Matched M M′
   unfolding Matched
   signature-complete = (
     λ same. shared-matched (same .0) (signature-shared (same .2)),

@@ -163,7 +163,8 @@ fn counted(side: usize, symmetries: usize) -> usize
     ensures { λ r. ⌜ r ≡ cond (eqb side 1) 1 (cond (eqb side 0) (symmetries + 1) symmetries) ⌝ }
 {
     if side == 1 {
-        return 1;
+        let alone = 1;
+        return alone;
     }
     if side == 0 {
         return symmetries + 1;

@@ -24,7 +24,8 @@ signed-as n m t before s after is written =
       place = ap (λ (a : SignatureAnswer). a .place) shown;
       start = ap (λ (a : SignatureAnswer). a .start) shown;
       symmetries = ap (λ (a : SignatureAnswer). a .symmetries) shown;
-      written = written }
+      written = written;
+    }
 
 signature-requires : tie.Need-signature-requires
 signature-requires c κs = search needs

@@ -4,7 +4,7 @@
 --     Sewn n m t back                a table that rules 1 to 8 have passed, with its β0
 --     Meeting                        a dart is about to be served
 --     rowMet M q d k                 the queue q once β1, .. βk of d are met
--- Assumes nothing.
+-- No public contract cites this file: it is for the functions inside. Assumes nothing.
 use Prim.Native.Nat.{ℕ, _-_, _≤_}
 use mathlib.Core.Path.{_≡_}
 use mathlib.Core.List.{List, map}

@@ -10,7 +10,7 @@ use Rattle.maps.specs.Least.{nth}
 use Rattle.maps.specs.Map.{Map, IsDart, sew}
 
 -- "two maps of equal n and m, and a one-to-one f from all darts to all darts with f(0) = 0 and f(βi(d)) = β'i(f(d)) for every d and i"
--- f(0) = 0 is `nth`'s: place 0 of every list holds 0. So an unsewn edge is kept unsewn, and a sewn one sewn.
+-- f(0) = 0 is `nth`'s: place 0 of every list holds 0. So an unsewn edge is kept unsewn, and of an accepted map a sewn one sewn.
 pub record Matching (M M′ : Map) (f : List ℕ) : Type 0 where
   pub same-dim : M .dim ≡ M′ .dim
   pub same-darts : M .darts ≡ M′ .darts

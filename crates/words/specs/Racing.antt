@@ -7,7 +7,7 @@
 --     Ready, Tried, Raced    a start may be tried, and what trying it leaves
 --     Forgets            the labels given can be forgotten
 --     Signs              what the signature's run has found
--- Assumes nothing.
+-- No public contract cites this file: it is for the functions inside. Assumes nothing.
 use Prim.Native.Nat.{ℕ, suc, zero, _+_, _*_, _≤_, _<_, max}
 use mathlib.Core.Path.{_≡_}
 use mathlib.Core.Bool.{Bool, cond}

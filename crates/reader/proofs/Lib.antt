@@ -1,0 +1,2 @@
+-- What is proved of the promises of this crate.
+pub mod Only

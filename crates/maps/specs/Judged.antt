@@ -2,9 +2,9 @@
 --     verdictOf       the number and place that an answer stands for, and `judgedOf` the answer for a verdict
 --     judgeOutput     4, of the output that a call is lent beside its table
 --     judgeSewing     1, 2, 3, 4, then 5 to 8
---     JudgedAs          what `judge` answers: that verdict, and β0 of each dart where it accepts
---     Shaped          what 1, 2 and 3 leave: a table of the right length, in bounds
---     ruleOf          the rule that a `Law` stands for
+--     backsOf         β0 of every dart
+--     JudgedAs        what `judge` answers: a verdict, and β0 of each dart where it accepts
+--     Shaped, Within, BackAs, ruleOf     for the functions inside: no public contract cites these
 -- Assumes nothing.
 use Prim.Native.Nat.{ℕ, _*_, _≤_}
 use mathlib.Core.Path.{_≡_}
@@ -51,6 +51,7 @@ pub record JudgedAs (M : Map) (v : Verdict) (r : Sewings) : Type 0 where
   pub verdict : r .judged ≡ judgedOf v
   pub backs : r .back ≡ cond (accepts v) (backsOf M) (replicate 1020 0)
 
+-- what 1, 2 and 3 leave: a table of the right length, in bounds
 pub record Shaped (n m : ℕ) (t : List ℕ) : Type 0 where
   pub dim-least : 1 ≤ n
   pub dim-most : n ≤ 4
@@ -67,6 +68,7 @@ pub record BackAs (M : Map) (entry : ℕ) (back : List ℕ) : Type 0 where
   pub wrong : entry ≡ wrongEntry M (record { number = 6; broken = givenBefore })
   pub whole : entry ≡ 0 → back ≡ backsOf M
 
+-- the rule that a `Law` stands for
 unfoldable pub ruleOf : Law → Rule
 ruleOf Bounded = record { number = 5; broken = exceeds }
 ruleOf Reversed = record { number = 7; broken = unanswered }

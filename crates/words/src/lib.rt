@@ -34,6 +34,7 @@ fn wide(x: u16) -> usize
     x as usize
 }
 
+// A label met is either one of those given or the next: the greater is how many are given now.
 fn later(a: usize, b: usize) -> usize
     ensures { λ r. ⌜ r ≡ max a b ⌝ }
 {

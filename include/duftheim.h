@@ -27,7 +27,7 @@ extern "C" {
      5  a number of the table is above m                    its dart
      6  a dart is 1-sewn to what a lower dart is 1-sewn to  the dart
      7  an i-sewing, i from 2, does not lead back           the dart
-     8  two sewings that must commute do not                the dart
+     8  two sewings in turn, and again, do not lead back    the dart
      9  a dart cannot be reached from dart 1                the dart
 
    The lowest number that applies is given, at the least dart. */

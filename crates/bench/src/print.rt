@@ -10,7 +10,7 @@ fn flush(out: &[u8], at: usize)
 }
 
 // Puts a byte at `at`, and answers where the next one goes.
-pub fn byte(out: &mut [u8; 4096], at: usize, b: u8) -> usize
+pub(crate) fn byte(out: &mut [u8; 4096], at: usize, b: u8) -> usize
     requires { ⌜ at ≤ 4096 ⌝ }
     ensures { λ r. ⌜ r ≤ 4096 ⌝ }
 {
@@ -36,7 +36,7 @@ fn bytes(out: &mut [u8; 4096], at: usize, text: &[u8]) -> usize
     to
 }
 
-pub fn decimal(out: &mut [u8; 4096], at: usize, n: u64) -> usize
+pub(crate) fn decimal(out: &mut [u8; 4096], at: usize, n: u64) -> usize
     requires { ⌜ at ≤ 4096 ⌝ }
     ensures { λ r. ⌜ r ≤ 4096 ⌝ }
 {
@@ -46,7 +46,7 @@ pub fn decimal(out: &mut [u8; 4096], at: usize, n: u64) -> usize
 }
 
 // Ends the line, and writes out what is left of it.
-pub fn newline(out: &mut [u8; 4096], at: usize)
+pub(crate) fn newline(out: &mut [u8; 4096], at: usize)
     requires { ⌜ at ≤ 4096 ⌝ }
 {
     let end = byte(out, at, b'\n');
@@ -58,7 +58,7 @@ fn wide(x: u16) -> u64 {
 }
 
 // A space and a number.
-pub fn spaced(out: &mut [u8; 4096], at: usize, n: u64) -> usize
+pub(crate) fn spaced(out: &mut [u8; 4096], at: usize, n: u64) -> usize
     requires { ⌜ at ≤ 4096 ⌝ }
     ensures { λ r. ⌜ r ≤ 4096 ⌝ }
 {
@@ -110,7 +110,7 @@ fn run(out: &mut [u8; 4096], at: usize, n: u64, times: usize) -> usize
 }
 
 // A list: its length and its numbers, by runs.
-pub fn list(out: &mut [u8; 4096], at: usize, numbers: &[u16]) -> usize
+pub(crate) fn list(out: &mut [u8; 4096], at: usize, numbers: &[u16]) -> usize
     requires { ⌜ at ≤ 4096 ⌝ }
     ensures { λ r. ⌜ r ≤ 4096 ⌝ }
 {

@@ -72,7 +72,7 @@ fn fill(numbers: &mut [u16], from: usize, to: usize, value: u16)
 }
 
 impl Cursor {
-    pub fn start() -> Cursor {
+    pub(crate) fn start() -> Cursor {
         Cursor { at: 0 }
     }
 
@@ -87,7 +87,7 @@ impl Cursor {
         Step::To(Cursor { at: at + 1 })
     }
 
-    pub fn word(self, line: &[u8], word: &[u8]) -> Step {
+    pub(crate) fn word(self, line: &[u8], word: &[u8]) -> Step {
         let mut at = self.at;
         let mut i = 0;
         while i < word.len() {
@@ -129,7 +129,7 @@ impl Cursor {
     }
 
     // A space and a number.
-    pub fn number(self, line: &[u8]) -> Number {
+    pub(crate) fn number(self, line: &[u8]) -> Number {
         let Step::To(next) = self.byte(line, b' ') else {
             return Number::Wrong;
         };
@@ -170,7 +170,7 @@ impl Cursor {
     }
 
     // A list's length and its numbers. The runs must fill it exactly, and none is empty.
-    pub fn list(self, line: &[u8], numbers: &mut [u16]) -> Numbers
+    pub(crate) fn list(self, line: &[u8], numbers: &mut [u16]) -> Numbers
         ensures { λ r. ⌜ ListFits (size (now (numbers .entry))) r ⌝ }
     {
         let Number::Read {
@@ -211,7 +211,7 @@ impl Cursor {
     }
 
     // N, M and the table.
-    pub fn map(self, line: &[u8], table: &mut [u16]) -> Map
+    pub(crate) fn map(self, line: &[u8], table: &mut [u16]) -> Map
         ensures { λ r. ⌜ MapFits (size (now (table .entry))) r ⌝ }
     {
         let Number::Read { value: n, next } = self.number(line) else {

@@ -8,7 +8,7 @@ use Rattle.maps.specs.Matching.{Matched}
 use Rattle.words.specs.Words.{word, signature}
 use Rattle.words.specs.Theorems.{SharedWord, Theorem1, Theorem2, Definition9, SignatureTells, SignatureRead, StartLeast}
 use Rattle.words.proofs.Order.{signature-one, signature-least, start-dart, start-word, start-least, symmetries-some, symmetries-most}
-use Rattle.words.proofs.Theorems.{word-complete, words-complete, signature-complete, signature-accepted, signature-signature, signature-start}
+use Rattle.words.proofs.Theorems.{word-complete, words-complete, signature-complete, signature-checked, signature-accepted, signature-signature, signature-start}
 
 pub theorem-1 : Theorem1
 unfolding Theorem1
@@ -32,7 +32,7 @@ signature-tells M M′ a a′ = signature-complete a a′
 
 pub signature-read : SignatureRead
 unfolding SignatureRead
-signature-read M a = (signature-accepted a, signature-signature a, signature-start a)
+signature-read M a = (signature-checked a, signature-accepted a, signature-signature a, signature-start a)
 
 pub start-is-least : StartLeast
 unfolding StartLeast

@@ -5,27 +5,32 @@
 --     word-complete           5 and 6: 000, theorem 1
 --     words-complete          000, theorem 2
 --     signature-complete      8: 000, theorem 2 for the signature of definition 9
---     signature-accepted, signature-signature, signature-start
+--     signature-checked, signature-accepted, signature-signature, signature-start
 --                             9: a signature read as a table is accepted, and is its own signature, from start 1
 -- 5 alone is `word-carried` of `Carried`; 7 is in `Matching` of `maps`; 000, proposition 1, is `labelling-numbers` of `Reached`
 -- of `labels`. Assumes nothing.
-use Prim.Native.Nat.{ℕ, _≤_}
+use Prim.Native.Nat.{ℕ, _*_, _≤_}
 use mathlib.Core.Path.{_≡_, sym, ap, _∙_}
 use mathlib.Core.List.{List, map}
 use mathlib.Core.Logic.{_↔_}
 use native.Mathlib.Nat.{le-refl, le-antisymm}
+use lib.ListN.{length}
 use Rattle.maps.specs.Least.{nth, upTo}
 use Rattle.maps.specs.Map.{Map, IsDart}
 use Rattle.maps.specs.Accepted.{Accepted}
 use Rattle.maps.specs.Matching.{Matching, Matched}
+use Rattle.maps.specs.Verdict.{accepted}
 use Rattle.maps.proofs.Least.{nth-map-upTo}
 use Rattle.maps.proofs.Matching.{matching-by, accepted-carried}
 use Rattle.labels.specs.Labelling.{labelIn, labelling}
+use Rattle.labels.specs.Check.{checkAnswer}
+use Rattle.labels.proofs.Judging.{check-accepts}
 use Rattle.labels.proofs.Queue.{labelling-start, labelling-first}
 use Rattle.labels.proofs.Carried.{matching-by-one}
 use Rattle.words.specs.Theorems.{readAs, Covers, SameWords, SharedWord, SameSignature}
 use Rattle.words.specs.Words.{word, signature, start}
 use Rattle.words.proofs.Order.{signature-same, start-dart, start-word, start-least}
+use Rattle.words.proofs.Words.{length-word}
 use Rattle.words.proofs.Carried.{word-carried}
 use Rattle.words.proofs.Labels.{withLabel, numbers, labels-matches, SameWord, label-matches}
 
@@ -142,6 +147,13 @@ module _ {M : Map} (a : Accepted M) where
   -- 9: a signature read as a table is accepted
   pub signature-accepted : Accepted (readAs M (signature M))
   signature-accepted = accepted-carried signature-matching a
+
+  -- 9: the plain check takes it as it stands, since it has n·m numbers
+  pub signature-checked : checkAnswer (M .dim) (M .darts) (signature M) ≡ accepted
+  signature-checked =
+      let long : length (signature M) ≡ M .dim * M .darts =
+      ap length (sym (start-word M some-dart)) ∙ length-word a (start M) (start-dart M some-dart) in
+      check-accepts (M .dim) (M .darts) (signature M) .1 (long, signature-accepted)
 
   -- 9: and is its own signature
   pub signature-signature : signature (readAs M (signature M)) ≡ signature M

@@ -3,6 +3,7 @@
 --     Matched M M′       M has a matching with M′: 000, definition 3 (`maps`, Matching)
 --     word M d           000, definition 6, of the labelling from d (Words)
 --     signature M        000, definition 9 (Words)
+--     checkAnswer        what the plain check answers of a dart table (`labels`, Check)
 --     readAs M w         the word w read as a dart table of M's dimension and dart count
 -- Assumes nothing.
 use Prim.Native.Nat.{ℕ, _≤_}
@@ -14,6 +15,8 @@ use Rattle.maps.specs.Least.{nth}
 use Rattle.maps.specs.Map.{Map, IsDart, tableMap}
 use Rattle.maps.specs.Accepted.{Accepted}
 use Rattle.maps.specs.Matching.{Matching, Matched}
+use Rattle.maps.specs.Verdict.{accepted}
+use Rattle.labels.specs.Check.{checkAnswer}
 use Rattle.words.specs.Words.{word, less, signature, start, symmetries}
 
 -- "A signature, read again as a dart table"
@@ -55,11 +58,12 @@ Definition9 =
 unfoldable pub SignatureTells : Type 0
 SignatureTells = (M M′ : Map) → Accepted M → Accepted M′ → SameSignature M M′ ↔ Matched M M′
 
--- demand 2: a signature read as a dart table is accepted, and is its own signature, from start 1
+-- demand 2: a signature read as a dart table is accepted, its length and all, and is its own signature, from start 1
 unfoldable pub SignatureRead : Type 0
 SignatureRead =
     (M : Map) → Accepted M
-    → Accepted (readAs M (signature M))
+    → (checkAnswer (M .dim) (M .darts) (signature M) ≡ accepted)
+    × Accepted (readAs M (signature M))
     × (signature (readAs M (signature M)) ≡ signature M)
     × (start (readAs M (signature M)) ≡ 1)
 

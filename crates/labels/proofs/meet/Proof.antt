@@ -1,6 +1,7 @@
 -- `labels::meet` meets its contract: 0 and a dart with a label change nothing, and any other gets the next. Assumes nothing.
 use Prim.Native.Nat.{ℕ, _+_, _-_, _≤_, _<_}
 use mathlib.Core.Path.{_≡_, refl, sym, _∙_}
+use native.Mathlib.Nat.{pos-of-ne-zero}
 use native.Mathlib.Omega.{arith}
 use lib.ListN.{take}
 use Rattle.labels.specs.Labelling.{labelIn}
@@ -9,9 +10,6 @@ use Rattle.labels.proofs.Arrays.{holds-same, holds-new}
 use borrow.Author.Needs.{needs}
 use Rattle.labels.proofs.meet.Statement.{statement}
 use Rattle.labels.proofs.meet.Tie as tie
-
-pos-of-ne-zero : {x : ℕ} → (x ≡ 0 → ⊥) → 0 < x
-pos-of-ne-zero {x} ne = omega arith
 
 -- where 0 stands in the array, the dart has no label
 unlabelled : (c : tie.Else2) →

@@ -5,6 +5,7 @@ use mathlib.Core.Path.{_≡_, _∙_, ap, sym, subst}
 use mathlib.Core.Bool.{true, false}
 use mathlib.Core.List.{List}
 use mathlib.Core.Logic.{⊎-elim}
+use native.Mathlib.Nat.{pos-of-ne-zero}
 use native.Mathlib.Omega.{arith}
 use borrow.Author.Tests.{lt-ltb, le-ltb}
 use lib.Dec.{ltb}
@@ -61,9 +62,6 @@ module _ {M : Map} {d : ℕ} {back : List ℕ} (s : Sewing M (M .darts) d back) 
           backs = rw (← more) (backs-unsewn (s .backs) dart dim unsewn);
           so-far = passed-turn _ (s .so-far) (ap (λ (c : ℕ). givenBefore M c 1) (sym one-less) ∙ clash-unsewn (s .backs) dart dim unsewn);
         }
-
-pos-of-ne-zero : {x : ℕ} → (x ≡ 0 → ⊥) → 0 < x
-pos-of-ne-zero {x} ne = omega arith
 
 abbrev Inv-loop : tie.InvT-loop
 Inv-loop n m table back₀ d₀ back d = Sewing (tableMap n m table) m d back

@@ -2,6 +2,7 @@
 use Prim.Native.Nat.{ℕ, _+_, _-_, _≤_, _<_, max}
 use mathlib.Core.Path.{_≡_, sym, ap, _∙_}
 use mathlib.Core.List.{List}
+use native.Mathlib.Nat.{pos-of-ne-zero}
 use native.Mathlib.Omega.{arith}
 use borrow.Author.Needs.{needs}
 use lib.ListN.{take, set}
@@ -12,9 +13,6 @@ use Rattle.labels.proofs.Arrays.{holds-length, holds-same, holds-new}
 use Rattle.words.specs.Racing.{Met}
 use Rattle.words.proofs.meet.Statement.{statement}
 use Rattle.words.proofs.meet.Tie as tie
-
-pos-of-ne-zero : {x : ℕ} → (x ≡ 0 → ⊥) → 0 < x
-pos-of-ne-zero {x} ne = omega arith
 
 max-left : (a b : ℕ) → b ≤ a → max a b ≡ a
 max-left a b h = omega arith

@@ -1,3 +1,4 @@
 -- The laws of `specs/`, for this crate's proofs and those of the crates that link it.
 pub mod Opened
 pub mod Run
+pub mod Refused

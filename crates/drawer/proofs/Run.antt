@@ -4,36 +4,38 @@ use mathlib.Core.Path.{_≡_, refl}
 use mathlib.Core.List.{List, [], _∷_, map}
 use Prim.Native.Nat.{ℕ}
 use lib.ListN.{length, replicate}
-use Rattle.drawer.specs.Plain.{Call, checks, searches, fetches, files, Answer, checked, searched, fetched, filed, Drawer, drawerRun, plainRun, roomIn}
+use Rattle.drawer.specs.Plain.{Call, checks, searches, fetches, files, Answer, checked, searched, fetched, filed, drawerRun, plainRun, roomIn}
+use Rattle.maps.specs.Given.{lent}
+use Rattle.drawer.specs.Drawer.{drawer}
 use Rattle.drawer.proofs.Opened.{opened}
 
 -- an answer's numbers; of bytes handed back, how many
 abbrev pub shown : Answer → List ℕ
 shown (checked v) = v .number ∷ v .place ∷ []
 shown (searched a) = a .number ∷ a .place ∷ a .die ∷ a .at ∷ []
-shown (fetched bytes) = length bytes ∷ []
+shown (fetched part) = length part ∷ []
 shown (filed a) = a .number ∷ a .place ∷ a .count ∷ []
 
 -- two records and four bytes more, none of them zero
-abbrev pub lent : List ℕ
-lent = replicate 4100 7
+abbrev pub bytes : List ℕ
+bytes = replicate 4100 7
 
 abbrev pub calls : List Call
 calls =
     checks
-    ∷ searches 1 2 (2 ∷ 0 ∷ [])
-    ∷ files 0 1 2 (2 ∷ 0 ∷ [])
-    ∷ files 501 1 2 (2 ∷ 0 ∷ [])
-    ∷ searches 1 2 (0 ∷ 1 ∷ [])
-    ∷ fetches 1 2 (0 ∷ 1 ∷ [])
-    ∷ files 501 1 1 (1 ∷ [])
-    ∷ files 502 1 2 (0 ∷ 1 ∷ [])
-    ∷ files 502 1 1 (1 ∷ [])
+    ∷ searches (lent 1 2 (2 ∷ 0 ∷ []))
+    ∷ files 0 (lent 1 2 (2 ∷ 0 ∷ []))
+    ∷ files 501 (lent 1 2 (2 ∷ 0 ∷ []))
+    ∷ searches (lent 1 2 (0 ∷ 1 ∷ []))
+    ∷ fetches (lent 1 2 (0 ∷ 1 ∷ []))
+    ∷ files 501 (lent 1 1 (1 ∷ []))
+    ∷ files 502 (lent 1 2 (0 ∷ 1 ∷ []))
+    ∷ files 502 (lent 1 1 (1 ∷ []))
     ∷ checks
-    ∷ searches 1 1 (1 ∷ [])
-    ∷ files 503 1 1 (0 ∷ [])
-    ∷ searches 1 1 (0 ∷ [])
-    ∷ searches 1 1 (9 ∷ [])
+    ∷ searches (lent 1 1 (1 ∷ []))
+    ∷ files 503 (lent 1 1 (0 ∷ []))
+    ∷ searches (lent 1 1 (0 ∷ []))
+    ∷ searches (lent 1 1 (9 ∷ []))
     ∷ []
 
 abbrev pub answers : List (List ℕ)
@@ -54,10 +56,10 @@ answers =
     ∷ (5 ∷ 1 ∷ 0 ∷ 0 ∷ [])
     ∷ []
 
-pub run-answers : map shown (drawerRun (record { count = 0; bytes = lent }) calls) ≡ answers
+pub run-answers : map shown (drawerRun (drawer 0 bytes) calls) ≡ answers
 unfolding opened
 run-answers = refl
 
-pub run-plain : drawerRun (record { count = 0; bytes = lent }) calls ≡ plainRun (roomIn lent) [] calls
+pub run-plain : drawerRun (drawer 0 bytes) calls ≡ plainRun (roomIn bytes) [] calls
 unfolding opened
 run-plain = refl

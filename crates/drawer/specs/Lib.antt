@@ -1,4 +1,5 @@
 -- Records, drawers, and the calls on them. Read in this order.
 pub mod Record
 pub mod Drawer
+pub mod Lines
 pub mod Plain

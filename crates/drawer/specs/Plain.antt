@@ -1,6 +1,5 @@
 -- The drawer as a plain list of (die, layout), and runs of calls on both (01, "The drawer", its last sentence).
 --     Call, Answer     a call that is lent a drawer, and what it answers
---     Drawer           a count and bytes, as the caller lends them
 --     drawerRun        the answers of a run of calls on a drawer, each lent what the last left
 --     plainRun         the answers of the same run on a plain list that may hold so many
 --     PlainList        from an empty drawer they are the same answers: the statement
@@ -12,17 +11,18 @@ use mathlib.Core.List.{List, [], _∷_, _++_}
 use lib.Dec.{T, leb}
 use lib.ListN.{length, getD}
 use Rattle.maps.specs.Verdict.{Verdict, accepted, accepts, unless, atLeast, inOrder}
-use Rattle.labels.specs.Labelling.{further}
-use Rattle.labels.specs.Check.{checkAnswer}
-use Rattle.drawer.specs.Record.{Layout, Filed, recordSize, recordBytes}
-use Rattle.drawer.specs.Drawer.{mostRecords, layoutOf, hasDie, hasLayout, SearchAnswer, FilingAnswer, drawerAnswer, searchAnswer, ownBytes, judgeFiling, filingAnswer, filedBytes}
+use Rattle.maps.specs.Given.{Given, lent}
+use Rattle.labels.specs.Queue.{further}
+use Rattle.labels.specs.Judging.{checkAnswer}
+use Rattle.drawer.specs.Record.{Filed, recordSize, recordBytes}
+use Rattle.drawer.specs.Drawer.{Drawer, drawer, mostRecords, layoutOf, hasDie, hasLayout, SearchAnswer, FilingAnswer, drawerAnswer, searchAnswer, ownBytes, judgeFiling, filingAnswer, filedBytes}
 
--- a call that is lent a drawer: a map is n, m and a dart table, and a filing names its die first
+-- a call that is lent a drawer; a filing names its die first
 pub data Call : Type 0 where
   checks : Call
-  searches : ℕ → ℕ → List ℕ → Call
-  fetches : ℕ → ℕ → List ℕ → Call
-  files : ℕ → ℕ → ℕ → List ℕ → Call
+  searches : Given → Call
+  fetches : Given → Call
+  files : ℕ → Given → Call
 
 pub data Answer : Type 0 where
   checked : Verdict → Answer
@@ -33,36 +33,32 @@ pub data Answer : Type 0 where
 -- what a caller can hand in: a die number has 4 bytes
 unfoldable pub fits : Call → Bool
 fits checks = true
-fits (searches n m t) = true
-fits (fetches n m t) = true
-fits (files die n m t) = leb die 4294967295
+fits (searches g) = true
+fits (fetches g) = true
+fits (files die g) = leb die 4294967295
 
 unfoldable pub allFit : List Call → Bool
 allFit [] = true
 allFit (c ∷ cs) = fits c && allFit cs
 
-pub record Drawer : Type 0 where
-  pub count : ℕ
-  pub bytes : List ℕ
-
 unfoldable pub drawerStep : Call → Drawer → Answer
-drawerStep checks D = checked (drawerAnswer (D .count) (D .bytes))
-drawerStep (searches n m t) D = searched (searchAnswer n m t (D .count) (D .bytes))
-drawerStep (fetches n m t) D = fetched (ownBytes n m t (D .count) (D .bytes))
-drawerStep (files die n m t) D = filed (filingAnswer die n m t (D .count) (D .bytes))
+drawerStep checks D = checked (drawerAnswer D)
+drawerStep (searches g) D = searched (searchAnswer g D)
+drawerStep (fetches g) D = fetched (ownBytes g D)
+drawerStep (files die g) D = filed (filingAnswer die g D)
 
 -- 01: "lent the count that the last accepted filing answered (0 before any) and the bytes last left"
 unfoldable pub drawerAfter : Call → Drawer → Drawer
 drawerAfter checks D = D
-drawerAfter (searches n m t) D = D
-drawerAfter (fetches n m t) D = D
-drawerAfter (files die n m t) D =
+drawerAfter (searches g) D = D
+drawerAfter (fetches g) D = D
+drawerAfter (files die g) D =
     record {
       count =
-          cond (accepts (judgeFiling die n m t (D .count) (D .bytes)))
-          (filingAnswer die n m t (D .count) (D .bytes) .count)
+          cond (accepts (judgeFiling die g D))
+          (filingAnswer die g D .count)
           (D .count);
-      bytes = filedBytes die n m t (D .count) (D .bytes);
+      bytes = filedBytes die g D;
     }
 
 unfoldable pub drawerRun : Drawer → List Call → List Answer
@@ -75,61 +71,61 @@ firstPlace p [] = 0
 firstPlace p (f ∷ fs) = cond (p f) 1 (further (firstPlace p fs))
 
 unfoldable pub noEntry : Filed
-noEntry = record { die = 0; layout = record { n = 0; m = 0; word = [] } }
+noEntry = record { die = 0; layout = lent 0 0 [] }
 
 unfoldable pub filedAt : List Filed → ℕ → Filed
 filedAt fs k = getD fs (k - 1) noEntry
 
-unfoldable pub judgePlainSearch : ℕ → ℕ → List ℕ → List Filed → Verdict
-judgePlainSearch n m t fs =
-    inOrder (checkAnswer n m t ∷ unless (leb 1 (firstPlace (hasLayout (layoutOf n m t)) fs)) 15 0 ∷ [])
+unfoldable pub judgePlainSearch : Given → List Filed → Verdict
+judgePlainSearch g fs =
+    inOrder (checkAnswer g ∷ unless (leb 1 (firstPlace (hasLayout (layoutOf g)) fs)) 15 0 ∷ [])
 
-unfoldable pub plainSearch : ℕ → ℕ → List ℕ → List Filed → SearchAnswer
-plainSearch n m t fs =
-    let v = judgePlainSearch n m t fs in
-    let k = firstPlace (hasLayout (layoutOf n m t)) fs in
+unfoldable pub plainSearch : Given → List Filed → SearchAnswer
+plainSearch g fs =
+    let v = judgePlainSearch g fs in
+    let k = firstPlace (hasLayout (layoutOf g)) fs in
     cond (accepts v)
     (record { number = 0; place = 0; die = filedAt fs k .die; at = k })
     (record { number = v .number; place = v .place; die = 0; at = 0 })
 
-unfoldable pub plainFetch : ℕ → ℕ → List ℕ → List Filed → List ℕ
-plainFetch n m t fs =
-    cond (accepts (judgePlainSearch n m t fs))
-    (recordBytes (filedAt fs (firstPlace (hasLayout (layoutOf n m t)) fs)))
+unfoldable pub plainFetch : Given → List Filed → List ℕ
+plainFetch g fs =
+    cond (accepts (judgePlainSearch g fs))
+    (recordBytes (filedAt fs (firstPlace (hasLayout (layoutOf g)) fs)))
     []
 
 -- a plain list that may hold `room` entries refuses as the drawer does, and has no bytes to judge
-unfoldable pub judgePlainFiling : ℕ → ℕ → ℕ → ℕ → List ℕ → List Filed → Verdict
-judgePlainFiling room die n m t fs =
+unfoldable pub judgePlainFiling : ℕ → ℕ → Given → List Filed → Verdict
+judgePlainFiling room die g fs =
     inOrder
-    (checkAnswer n m t
+    (checkAnswer g
     ∷ unless (leb 1 die) 16 0
     ∷ atLeast 16 (firstPlace (hasDie die) fs)
-    ∷ atLeast 17 (firstPlace (hasLayout (layoutOf n m t)) fs)
+    ∷ atLeast 17 (firstPlace (hasLayout (layoutOf g)) fs)
     ∷ unless (leb (length fs + 1) room) 18 0
     ∷ [])
 
-unfoldable pub plainFiling : ℕ → ℕ → ℕ → ℕ → List ℕ → List Filed → FilingAnswer
-plainFiling room die n m t fs =
-    let v = judgePlainFiling room die n m t fs in
+unfoldable pub plainFiling : ℕ → ℕ → Given → List Filed → FilingAnswer
+plainFiling room die g fs =
+    let v = judgePlainFiling room die g fs in
     cond (accepts v)
     (record { number = 0; place = 0; count = length fs + 1 })
     (record { number = v .number; place = v .place; count = 0 })
 
 unfoldable pub plainStep : ℕ → Call → List Filed → Answer
 plainStep room checks fs = checked accepted
-plainStep room (searches n m t) fs = searched (plainSearch n m t fs)
-plainStep room (fetches n m t) fs = fetched (plainFetch n m t fs)
-plainStep room (files die n m t) fs = filed (plainFiling room die n m t fs)
+plainStep room (searches g) fs = searched (plainSearch g fs)
+plainStep room (fetches g) fs = fetched (plainFetch g fs)
+plainStep room (files die g) fs = filed (plainFiling room die g fs)
 
 -- an accepted filing puts the layout at the list's end
 unfoldable pub plainAfter : ℕ → Call → List Filed → List Filed
 plainAfter room checks fs = fs
-plainAfter room (searches n m t) fs = fs
-plainAfter room (fetches n m t) fs = fs
-plainAfter room (files die n m t) fs =
-    cond (accepts (judgePlainFiling room die n m t fs))
-    (fs ++ (record { die = die; layout = layoutOf n m t } ∷ []))
+plainAfter room (searches g) fs = fs
+plainAfter room (fetches g) fs = fs
+plainAfter room (files die g) fs =
+    cond (accepts (judgePlainFiling room die g fs))
+    (fs ++ (record { die = die; layout = layoutOf g } ∷ []))
     fs
 
 unfoldable pub plainRun : ℕ → List Filed → List Call → List Answer
@@ -144,4 +140,4 @@ roomIn bytes = min mostRecords (length bytes / recordSize)
 unfoldable pub PlainList : Type 0
 PlainList =
     (bytes : List ℕ) (calls : List Call) → T (allFit calls)
-    → drawerRun (record { count = 0; bytes = bytes }) calls ≡ plainRun (roomIn bytes) [] calls
+    → drawerRun (drawer 0 bytes) calls ≡ plainRun (roomIn bytes) [] calls

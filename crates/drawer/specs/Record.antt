@@ -1,6 +1,5 @@
 -- A record of 2,048 bytes, and what reading it finds (01, "The drawer").
---     Layout          n, m and a dart table: in a good drawer, a signature
---     Filed           a die number and its layout
+--     Filed           a die number and its layout: n, m and a dart table, in a good drawer a signature
 --     recordBytes     the bytes of a filed layout
 --     filedIn r       what the bytes r of a record say, read as they stand
 --     Fault           why a record is no filed layout, by name
@@ -14,27 +13,19 @@ use mathlib.Core.List.{List, [], _∷_, _++_, flatMap}
 use lib.Dec.{eqb, leb}
 use lib.ListN.{take, drop, replicate}
 use Rattle.maps.specs.Least.{nth}
-use Rattle.maps.specs.Map.{Map, tableMap}
-use Rattle.maps.specs.Verdict.{Verdict, accepts, inOrder}
+use Rattle.maps.specs.Given.{Given, lent, mapOf}
+use Rattle.maps.specs.Verdict.{Verdict, accepts}
 use Rattle.maps.specs.Rules.{judgeDimension, judgeSize}
-use Rattle.labels.specs.Check.{judgeMap}
+use Rattle.labels.specs.Judging.{judgeMap}
 use Rattle.words.specs.Words.{same, signature}
-
-pub record Layout : Type 0 where
-  pub n : ℕ
-  pub m : ℕ
-  pub word : List ℕ
 
 pub record Filed : Type 0 where
   pub die : ℕ
-  pub layout : Layout
-
-unfoldable pub layoutMap : Layout → Map
-layoutMap l = tableMap (l .n) (l .m) (l .word)
+  pub layout : Given
 
 -- 01: "layout (n, m and word)"
-unfoldable pub sameLayout : Layout → Layout → Bool
-sameLayout a b = eqb (a .n) (b .n) && eqb (a .m) (b .m) && same (a .word) (b .word)
+unfoldable pub sameLayout : Given → Given → Bool
+sameLayout a b = eqb (a .n) (b .n) && eqb (a .m) (b .m) && same (a .table) (b .table)
 
 -- 01: "numbers little end first": the number x in k bytes, and the number that bytes say
 unfoldable pub toBytes : ℕ → ℕ → List ℕ
@@ -58,7 +49,7 @@ unfoldable pub recordBytes : Filed → List ℕ
 recordBytes f =
     let l = f .layout in
     toBytes 4 (f .die) ++ toBytes 1 (l .n) ++ (0 ∷ []) ++ toBytes 2 (l .m)
-    ++ flatMap (toBytes 2) (l .word)
+    ++ flatMap (toBytes 2) (l .table)
     ++ replicate (recordSize - 8 - 2 * (l .n * l .m)) 0
 
 -- the fields where they stand in a record
@@ -68,7 +59,7 @@ filedIn r =
     let m = fromBytes (take 2 (drop 6 r)) in
     record {
       die = fromBytes (take 4 r);
-      layout = record { n = n; m = m; word = numbers (n * m) (drop 8 r) };
+      layout = lent n m (numbers (n * m) (drop 8 r));
     }
 
 unfoldable pub zeroByteIn : List ℕ → ℕ
@@ -114,9 +105,9 @@ unfoldable pub readTable : List ℕ → Reading
 readTable r =
     let f = filedIn r in
     let l = f .layout in
-    let v = inOrder (judgeMap (layoutMap l)) in
-    provided (accepts (judgeDimension (l .n))) wrong-dimension
-    (provided (accepts (judgeSize (l .n) (l .m))) wrong-size
+    let v = judgeMap (mapOf l) in
+    provided (accepts (judgeDimension l)) wrong-dimension
+    (provided (accepts (judgeSize l)) wrong-size
     (provided (leb 1 (f .die)) no-die
     (provided (eqb (zeroByteIn r) 0) zero-byte
     (provided (allZero (fillingIn r)) filling
@@ -125,7 +116,7 @@ readTable r =
 
 -- 01: "the word isn't an accepted map equal to its own signature"
 unfoldable pub asSigned : Reading → Reading
-asSigned (good f) = provided (same (f .layout .word) (signature (layoutMap (f .layout)))) other-word (good f)
+asSigned (good f) = provided (same (f .layout .table) (signature (mapOf (f .layout)))) other-word (good f)
 asSigned (bad f) = bad f
 
 unfoldable pub readRecord : List ℕ → Reading

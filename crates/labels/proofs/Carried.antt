@@ -19,7 +19,7 @@ use Rattle.maps.specs.Accepted.{OpenMap, Accepted}
 use Rattle.maps.specs.Matching.{Matching}
 use Rattle.maps.proofs.Least.{nth-zero, map-append, Tested, passes, fails, tested}
 use Rattle.maps.proofs.Matching.{image-same, kept-all, composed, nth-composed, images-only}
-use Rattle.labels.specs.Labelling.{labelIn, visit, visits, serve, served, labelling}
+use Rattle.labels.specs.Queue.{labelIn, visit, visits, tried, serve, served, labelling}
 use Rattle.labels.proofs.Reached.{labelling-numbers}
 
 -- each number of the list is at most m
@@ -83,7 +83,7 @@ module _ {M : Map} (o : OpenMap M) where
   tries-within d is = within-map (λ i. sew M i d) (λ i. o .to-darts i d) is
 
   served-within : (d : ℕ) → d ≤ M .darts → (k : ℕ) → Within (M .darts) (served M d k)
-  unfolding served serve
+  unfolding served serve tried
   served-within d h zero = more h none
   served-within d h (suc k) = within-visits (served-within d h k) (tries-within (nth (served M d k) (suc k)) (0 ∷ upTo (M .dim)))
 
@@ -98,7 +98,7 @@ module _ {M M′ : Map} {f : List ℕ} (m : Matching M M′ f) (o : OpenMap M) (
   tries-carried d (i ∷ is) = rw (kept-all m o some-dim i d, tries-carried d is)
 
   pub serve-carried : {q : List ℕ} → Within (M .darts) q → (d : ℕ) → serve M′ (map (nth f) q) (nth f d) ≡ map (nth f) (serve M q d)
-  unfolding serve
+  unfolding serve tried
   serve-carried {q} w d =
       ap (λ (n : ℕ). visits (map (nth f) q) (map (λ i. sew M′ i (nth f d)) (0 ∷ upTo n))) (sym (m .same-dim))
       ∙ ap (visits (map (nth f) q)) (tries-carried d (0 ∷ upTo (M .dim)))

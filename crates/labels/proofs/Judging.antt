@@ -1,37 +1,40 @@
--- Theorem 10: the check accepts exactly the tables of accepted maps, and gives each refusal exactly when its line of 01's table says, at the least place.
+-- The laws of `specs/Judging.antt`: rule 9, and that the answers show the lines of a table (theorem 10).
 --     unlabelled-says                        a dart has label 0 from dart 1 exactly when no path leads there
---     notReached-none, notReached-least      rule 9 names no dart exactly in a connected map, else the least that no path leads to
---     MapLine M k d                          the line numbered k of 01's table, 5 to 9, holds of the dart d
---     map-accepted, map-refused              5 to 9 in order accept exactly the open, connected maps, and refuse by the first line that holds, at its least dart
---     Line n m t Short k p                   the line numbered k of the table, 1 to 9, holds of the place p
---     check-accepts, check-refuses           the plain check accepts exactly the tables of accepted maps, and refuses by the first line that holds, at its least place
---     check-number                           it never gives 4
---     judge-accepts, judge-refuses           the same for a call with an output
---     judge-passed, judge-sized              an output that is accepted changes nothing; nor do 1 to 3, where n, m and the length are as they must be
+--     Unreached, notReached-none, notReached-least
+--                                            rule 9 names no dart exactly in a connected map, else the least that no path leads to
+--     map-shows, map-clear                   5 to 9
+--     table-shows, table-clear, clear-table  1 to 9, with the output that a call is lent
+--     table-nine, nine-before, nine-none, nine-refused
+--                                            1 to 9 by what 1 to 8 answer
+--     table-whole, sewing-whole              a table whose verdict accepts is accepted, at place 0
+--     shaped-map                             of a table in shape, 5 to 9 are left
+--     judges-only, check-only                no second answer fits
 -- Assumes nothing.
 use Prim.Native.Nat.{ℕ, _*_, _≤_, _<_}
-use mathlib.Core.Path.{_≡_, refl, sym, _∙_}
-use mathlib.Core.Bool.{Bool, true, false, _&&_}
+use mathlib.Core.Path.{_≡_, refl, sym, ap, _∙_}
+use mathlib.Core.Bool.{Bool, true, false}
 use mathlib.Core.List.{List, [], _∷_, _++_}
-use mathlib.Core.Logic.{_↔_, Iff·trans, _⊎_, inl, inr, ⊎-elim}
-use mathlib.Core.HLevel.{dec→stable}
+use mathlib.Core.Logic.{_↔_, ⊎-elim}
 use native.Mathlib.Omega.{arith}
 use native.Mathlib.Nat.{eq-zero-or-pos}
-use native.Mathlib.Decide.{ℕ-discrete}
-use borrow.Author.Tests.{eq-eqb, ne-eqb, eqb-true, eqb-false, lt-leb, leb-true, leb-false}
-use lib.Dec.{eqb, leb}
+use borrow.Author.Tests.{eq-eqb, ne-eqb, eqb-true, eqb-false}
+use lib.Dec.{eqb}
 use lib.ListN.{length}
-use Rattle.maps.specs.Map.{Map, IsDart, sew, tableMap}
-use Rattle.maps.specs.Accepted.{InBounds, OpenMap, Path, Connected, Accepted}
-use Rattle.maps.specs.Verdict.{Verdict, accepted, refused, inOrder}
-use Rattle.maps.specs.Rules.{judgeDimension, judgeSize, judgeLength, judgeRoom, judgeEntries}
+use Rattle.maps.specs.Map.{Map, IsDart, sew}
+use Rattle.maps.specs.Accepted.{ToDarts, OpenMap, Path, Connected, Accepted}
+use Rattle.maps.specs.Given.{Given, mapOf, Shaped}
+use Rattle.maps.specs.Verdict.{Verdict, accepted, refused, accepts, unless, atLeast, inOrder}
+use Rattle.maps.specs.Lines.{Silent, Shows, shapeLines, roomLines, entryLines, reachLine, mapLines, tableLines}
+use Rattle.maps.specs.Rules.{judgeShape, judgeOutput, judgeEntries, judgeSewing}
+use Rattle.maps.specs.Answer.{judgedOf}
+use Rattle.maps.specs.declared.Judged.{Judged}
+use Rattle.maps.specs.declared.Output.{Output}
 use Rattle.maps.proofs.Least.{Tested, passes, fails, tested, Found, least-none, none-least, least-found, least-is}
-use Rattle.maps.proofs.Verdict.{inOrder-append}
-use Rattle.maps.proofs.Lines.{inOrder-append-passed, inOrder-append-accepted, Clear, First, Judged, clear, clear-one}
-use Rattle.maps.proofs.Lines.{judged-accepted, judged-refused, judged-number, judged-unless, judged-least, judged-then, judged-one, judged-cons, judged-cong}
-use Rattle.maps.proofs.Judging.{EntryLine, breaks-number, entries-judged, entries-clear}
-use Rattle.labels.specs.Labelling.{labelIn, labelling}
-use Rattle.labels.specs.Check.{notReached, judgeMap, judgeTable, checkAnswer}
+use Rattle.maps.proofs.Verdict.{inOrder-passed, inOrder-refused, inOrder-first, inOrder-one, inOrder-accepts, atLeast-some}
+use Rattle.maps.proofs.Lines.{Clear, clear, past, shows-only, shows-clear, clear-shows, clear-join, clear-split, shows-then, shows-last, shows-least, shape-shows, shape-clear, room-shows, entries-shows, entries-clear, sewing-clear}
+use Rattle.maps.proofs.Answer.{judged-only}
+use Rattle.labels.specs.Queue.{labelIn, labelling}
+use Rattle.labels.specs.Judging.{notReached, judgeMap, tableAnswer, checkAnswer, Judges}
 use Rattle.labels.proofs.Reached.{labelled-reached, reached-labelled}
 
 -- the test of rule 9
@@ -45,7 +48,7 @@ pub record Unreached (M : Map) (d : ℕ) : Type 0 where
   pub lower : (e : ℕ) → 1 ≤ e → e < d → Path M 1 e
 
 -- rule 9, where every sewing leads to a dart or to nothing
-module _ (M : Map) (to-darts : (i d : ℕ) → sew M i d ≤ M .darts) (darts : 1 ≤ M .darts) where
+module _ (M : Map) (to-darts : ToDarts M) (darts : 1 ≤ M .darts) where
   path-labelled : (d : ℕ) → Path M 1 d → 0 < labelIn (labelling M 1) d
   path-labelled d p = reached-labelled M to-darts 1 (omega arith, darts) d p
 
@@ -100,259 +103,117 @@ module _ (M : Map) (to-darts : (i d : ℕ) → sew M i d ≤ M .darts) (darts : 
           least-is (unlabelled M) (M .darts)
           (record { low = u .dart .0; high = u .dart .1; hit = no-path-hit d (u .no-path); before = λ e one less. path-missed e (u .lower e one less) })
 
--- 01, "Numbers the display can show": the lines 5 to 9, of a dart
-pub data MapLine (M : Map) : ℕ → ℕ → Type 0 where
-  line-5-8 : {k d : ℕ} → EntryLine M k d → MapLine M k d
-  -- 9: "not connected": a "dart not reached"
-  line-9 : {d : ℕ} → IsDart M d → ¬ Path M 1 d → MapLine M 9 d
-
-map-number : {M : Map} {k d : ℕ} → MapLine M k d → (5 ≤ k) × (k < 10)
-map-number (line-5-8 l) = let number = breaks-number (l .2) in omega arith
-map-number (line-9 dart none) = omega arith
-
 module _ (M : Map) where
-  entry-lines : (k d : ℕ) → 5 ≤ k → k < 9 → EntryLine M k d ↔ MapLine M k d
-  entry-lines k d low high = (line-5-8, λ l. at l high)
+  -- rule 9's verdict is what its line shows, in an open map
+  nine-shows : OpenMap M → 1 ≤ M .darts → Shows (reachLine M ∷ []) (atLeast 9 (notReached M))
+  unfolding notReached
+  nine-shows o darts =
+      shows-least (reachLine M) (M .darts) (unlabelled M) (omega arith)
+      (λ d. (
+        λ h. (h .0 .0, h .0 .1, no-path-hit M (o .to-darts) darts d (h .1)),
+        λ h. ((h .0, h .1), hit-no-path M (o .to-darts) darts d (h .2)),
+      ))
+
+  -- 5 to 9 show the lines of the map
+  pub map-shows : 1 ≤ M .dim → 1 ≤ M .darts → Shows (mapLines M) (judgeMap M)
+  unfolding mapLines judgeMap
+  map-shows dim darts = shows-then _ (entries-shows M dim) (λ c. shows-last (nine-shows (entries-clear M .0 c) darts))
+
+  -- which hold of no place exactly in an open, connected map
+  pub map-clear : 1 ≤ M .darts → Clear (mapLines M) ↔ OpenMap M × Connected M
+  unfolding mapLines Connected
+  map-clear darts = (to, back)
     where
-      at : {k d : ℕ} → MapLine M k d → k < 9 → EntryLine M k d
-      at (line-5-8 l) less = l
-      at (line-9 dart none) less = absurd (omega arith)
+      reached : OpenMap M → Clear (reachLine M ∷ []) → (d : ℕ) → IsDart M d → Path M 1 d
+      reached o (past silent clear) d dart = path-stable M (o .to-darts) darts d (λ none. silent d (dart, none))
 
-  line-9-says : (d : ℕ) → MapLine M 9 d → (1 ≤ d) × (d ≤ M .darts) × (¬ Path M 1 d)
-  line-9-says d (line-5-8 l) = absurd (omega (arith, breaks-number (l .2)))
-  line-9-says d (line-9 dart none) = (dart .0, dart .1, none)
+      to : Clear (mapLines M) → OpenMap M × Connected M
+      to c =
+          let both = clear-split (entryLines M) c in
+          let o : OpenMap M = entries-clear M .0 (both .0) in
+          (o, reached o (both .1))
 
-  -- where none of the lines 5 to 8 holds, the map is open
-  clear-open : Clear (MapLine M) 5 9 → OpenMap M
-  clear-open none = entries-clear M .0 (λ k d low high l. none k d low high (line-5-8 l))
+      all : Connected M → Silent (reachLine M)
+      all c d h = h .1 (c d (h .0))
 
-  module _ (darts : 1 ≤ M .darts) where
-    -- none of the lines 5 to 9 holds exactly in an open, connected map
-    pub map-clear : Clear (MapLine M) 5 10 ↔ OpenMap M × Connected M
-    unfolding Connected
-    map-clear = (to, back)
-      where
-        to : Clear (MapLine M) 5 10 → OpenMap M × Connected M
-        to none =
-            let o : OpenMap M = clear-open (λ k d low high. none k d low (omega arith)) in
-            (o, λ d dart. path-stable M (o .to-darts) darts d (λ no-path. none 9 d (omega arith) (omega arith) (line-9 dart no-path)))
+      back : OpenMap M × Connected M → Clear (mapLines M)
+      back h = clear-join (entries-clear M .1 (h .0)) (past (all (h .1)) clear)
 
-        back : OpenMap M × Connected M → Clear (MapLine M) 5 10
-        back h k d low high (line-5-8 l) = entries-clear M .1 (h .0) k d low (breaks-number (l .2) .1) l
-        back h k d low high (line-9 dart none) = none (h .1 d dart)
+module _ (o : Output) (g : Given) where
+  -- the answer of a call on one table is what its lines show
+  pub table-shows : Shows (tableLines o g) (tableAnswer o g)
+  unfolding tableLines tableAnswer mapOf
+  table-shows =
+      shows-then _ (shape-shows g)
+      (λ c.
+      let b = shape-clear g .0 c .bounds in
+      shows-then _ (room-shows o (g .n) (g .m)) (λ d. shows-last (map-shows (mapOf g) (b .dim-least) (b .darts-least))))
 
-    -- 5 to 9 in order show the first of the lines that holds, at its least dart
-    pub map-judged : 1 ≤ M .dim → Judged (MapLine M) 5 10 (inOrder (judgeMap M))
-    unfolding judgeMap notReached
-    map-judged dim =
-        judged-then (MapLine M) (omega arith) (omega arith) (omega arith) (judgeEntries M) _
-        (judged-cong (EntryLine M) (MapLine M) entry-lines (entries-judged M dim))
-        (λ none. judged-one (MapLine M) (omega arith) (judged-least (MapLine M) 9 (M .darts) (unlabelled M) (says (clear-open none))))
-      where
-        says : OpenMap M → (d : ℕ) → MapLine M 9 d ↔ (1 ≤ d) × (d ≤ M .darts) × (unlabelled M d ≡ true)
-        says o d = (
-          λ l. let h = line-9-says d l in (h .0, h .1, no-path-hit M (o .to-darts) darts d (h .2)),
-          λ h. line-9 (h .0, h .1) (hit-no-path M (o .to-darts) darts d (h .2)),
-        )
+  -- where it accepts, the output has room, and the table is in shape and that of an accepted map
+  pub table-clear : tableAnswer o g ≡ accepted → (judgeOutput o (g .n) (g .m) ≡ accepted) × Shaped g × Accepted (mapOf g)
+  unfolding tableLines mapOf
+  table-clear is =
+      let first = clear-split (shapeLines g) (shows-clear table-shows is) in
+      let rest = clear-split (roomLines o (g .n) (g .m)) (first .1) in
+      let s = shape-clear g .0 (first .0) in
+      let m = map-clear (mapOf g) (s .bounds .darts-least) .0 (rest .1) in
+      (clear-shows (room-shows o (g .n) (g .m)) (rest .0), s, record { bounds = s .bounds; open-map = m .0; connected = m .1 })
 
-    -- they accept exactly the open, connected maps
-    pub map-accepted : 1 ≤ M .dim → (inOrder (judgeMap M) ≡ accepted) ↔ OpenMap M × Connected M
-    map-accepted dim = Iff·trans (judged-accepted (MapLine M) (omega arith) (map-judged dim)) map-clear
+  -- and it accepts wherever that holds
+  pub clear-table : judgeOutput o (g .n) (g .m) ≡ accepted → length (g .table) ≡ g .n * g .m → Accepted (mapOf g) → tableAnswer o g ≡ accepted
+  unfolding tableLines mapOf
+  clear-table room long a =
+      clear-shows table-shows
+      (clear-join (shape-clear g .1 (record { bounds = a .bounds; long = long }))
+      (clear-join (shows-clear (room-shows o (g .n) (g .m)) room) (map-clear (mapOf g) (a .bounds .darts-least) .1 (a .open-map, a .connected))))
 
-    -- and refuse exactly by the first line that holds, at its least dart
-    pub map-refused : 1 ≤ M .dim → (k d : ℕ) → 1 ≤ k → (inOrder (judgeMap M) ≡ refused k d) ↔ First (MapLine M) 5 k d
-    map-refused dim = judged-refused (MapLine M) (omega arith) (map-judged dim) (λ k d l. map-number l)
+  -- a table whose verdict accepts is accepted, at place 0
+  pub table-whole : accepts (tableAnswer o g) ≡ true → tableAnswer o g ≡ accepted
+  unfolding tableAnswer
+  table-whole e = inOrder-accepts _ e
 
--- 01, "Numbers the display can show": the lines 1 to 9, of a dart table t for n and m; `Short` is what line 4 says
-pub data Line (n m : ℕ) (t : List ℕ) (Short : Type 0) : ℕ → ℕ → Type 0 where
-  -- 1: "n outside 1..4"
-  line-1 : (n ≡ 0) ⊎ (4 < n) → Line n m t Short 1 0
-  -- 2: "m = 0 or n·m > 1,020"
-  line-2 : (m ≡ 0) ⊎ (1020 < n * m) → Line n m t Short 2 0
-  -- 3: "table length is not n·m"
-  line-3 : ¬ (length t ≡ n * m) → Line n m t Short 3 0
-  -- 4: "output shorter than" what is written
-  line-4 : Short → Line n m t Short 4 0
-  line-5-9 : {k d : ℕ} → MapLine (tableMap n m t) k d → Line n m t Short k d
+  pub sewing-whole : accepts (judgeSewing o g) ≡ true → judgeSewing o g ≡ accepted
+  unfolding judgeSewing
+  sewing-whole e = inOrder-accepts _ e
 
--- a test of two bounds fails exactly when one of them does
-bounds-fail : (a b c : ℕ) → ((leb 1 a && leb b c) ≡ false) ↔ ((a ≡ 0) ⊎ (c < b))
-bounds-fail a b c = (to (tested (leb 1 a)), back (tested (leb 1 a)))
+-- a list in a list is judged as one
+nested : (s r e x : Verdict) → inOrder (s ∷ r ∷ inOrder (e ∷ x ∷ []) ∷ []) ≡ inOrder (inOrder (s ∷ r ∷ e ∷ []) ∷ x ∷ [])
+unfolding inOrder accepts accepted
+nested s r e x = at (tested (accepts s)) (tested (accepts r)) (tested (accepts e)) (tested (accepts x))
   where
-    to : Tested (leb 1 a) → (leb 1 a && leb b c) ≡ false → (a ≡ 0) ⊎ (c < b)
-    to (passes low) e = inr (leb-false b c (simp low at e))
-    to (fails low) e = inl (omega (arith, leb-false 1 a low))
+    at : Tested (accepts s) → Tested (accepts r) → Tested (accepts e) → Tested (accepts x) → inOrder (s ∷ r ∷ inOrder (e ∷ x ∷ []) ∷ []) ≡ inOrder (inOrder (s ∷ r ∷ e ∷ []) ∷ x ∷ [])
+    at (fails a) b c d = simp (a, a)
+    at (passes a) (fails b) c d = simp (a, b, b)
+    at (passes a) (passes b) (fails c) d = simp (a, b, c, c)
+    at (passes a) (passes b) (passes c) (passes d) = simp (a, b, c, d)
+    at (passes a) (passes b) (passes c) (fails d) = simp (a, b, c, d, d)
 
-    back : Tested (leb 1 a) → (a ≡ 0) ⊎ (c < b) → (leb 1 a && leb b c) ≡ false
-    back (fails low) h = simp low
-    back (passes low) (inl z) = absurd (omega (arith, leb-true 1 a low))
-    back (passes low) (inr over) = simp (low, lt-leb b c over)
+-- 1 to 8, and then rule 9
+table-nine : (o : Output) (g : Given) → tableAnswer o g ≡ inOrder (judgeSewing o g ∷ atLeast 9 (notReached (mapOf g)) ∷ [])
+unfolding tableAnswer judgeSewing judgeMap
+table-nine o g = nested (judgeShape g) (judgeOutput o (g .n) (g .m)) (judgeEntries (mapOf g)) (atLeast 9 (notReached (mapOf g)))
 
--- 1, 2 and 3
-abbrev sizes : ℕ → ℕ → List ℕ → List Verdict
-sizes n m t = judgeDimension n ∷ judgeSize n m ∷ judgeLength n m t ∷ []
+module _ (o : Output) (g : Given) where
+  pub nine-before : accepts (judgeSewing o g) ≡ false → tableAnswer o g ≡ judgeSewing o g
+  nine-before e = table-nine o g ∙ inOrder-refused _ _ e
 
-module _ (n m : ℕ) (t : List ℕ) (Short : Type 0) where
-  line-number : (k p : ℕ) → Line n m t Short k p → (1 ≤ k) × (k < 10)
-  line-number k p (line-1 h) = omega arith
-  line-number k p (line-2 h) = omega arith
-  line-number k p (line-3 h) = omega arith
-  line-number k p (line-4 h) = omega arith
-  line-number k p (line-5-9 l) = let number = map-number l in omega arith
+  pub nine-none : accepts (judgeSewing o g) ≡ true → notReached (mapOf g) ≡ 0 → tableAnswer o g ≡ judgeSewing o g
+  unfolding inOrder atLeast unless accepts accepted
+  nine-none e none = table-nine o g ∙ inOrder-passed (judgeSewing o g) (atLeast 9 (notReached (mapOf g)) ∷ []) e ∙ simp none (sym (sewing-whole o g e))
 
-  -- what the line of each number says
-  says-1 : (p : ℕ) → Line n m t Short 1 p → (n ≡ 0) ⊎ (4 < n)
-  says-1 p (line-1 h) = h
-  says-1 p (line-5-9 l) = absurd (omega (arith, map-number l))
+  pub nine-refused : accepts (judgeSewing o g) ≡ true → (p : ℕ) → p ≡ notReached (mapOf g) → (p ≡ 0 → ⊥) → tableAnswer o g ≡ refused 9 p
+  nine-refused e p is some = table-nine o g ∙ inOrder-passed _ _ e ∙ inOrder-first _ _ 9 p (omega arith) (rw (← is) (atLeast-some 9 p some))
 
-  says-2 : (p : ℕ) → Line n m t Short 2 p → (m ≡ 0) ⊎ (1020 < n * m)
-  says-2 p (line-2 h) = h
-  says-2 p (line-5-9 l) = absurd (omega (arith, map-number l))
+-- of a table in shape, 5 to 9 are left to the plain check
+pub shaped-map : (g : Given) → Shaped g → checkAnswer g ≡ judgeMap (mapOf g)
+unfolding checkAnswer tableAnswer judgeOutput judgeMap accepts accepted inOrder
+shaped-map g s =
+    inOrder-passed (judgeShape g) (accepted ∷ judgeMap (mapOf g) ∷ []) (ap accepts (clear-shows (shape-shows g) (shape-clear g .1 s))) ∙ inOrder-one _ (inOrder-accepts (judgeEntries (mapOf g) ∷ atLeast 9 (notReached (mapOf g)) ∷ []))
 
-  says-3 : (p : ℕ) → Line n m t Short 3 p → ¬ (length t ≡ n * m)
-  says-3 p (line-3 h) = h
-  says-3 p (line-5-9 l) = absurd (omega (arith, map-number l))
+-- no second answer of `judge` fits, nor other contents of the arrays that it is lent
+pub judges-only : (o : Output) (g : Given) (r s : Judged) (b c l k : List ℕ) → Judges o g r b l → Judges o g s c k → (r ≡ s) × (b ≡ c) × (l ≡ k)
+judges-only o g r s b c l k x y = let same = judged-only (tableAnswer o) g r s b c (x .answer) (y .answer) in (same .0, same .1, x .blank ∙ sym (y .blank))
 
-  says-4 : (p : ℕ) → Line n m t Short 4 p → Short
-  says-4 p (line-4 h) = h
-  says-4 p (line-5-9 l) = absurd (omega (arith, map-number l))
-
-  says-5-9 : (k d : ℕ) → 5 ≤ k → Line n m t Short k d → MapLine (tableMap n m t) k d
-  says-5-9 k d low (line-1 h) = absurd (omega arith)
-  says-5-9 k d low (line-2 h) = absurd (omega arith)
-  says-5-9 k d low (line-3 h) = absurd (omega arith)
-  says-5-9 k d low (line-4 h) = absurd (omega arith)
-  says-5-9 k d low (line-5-9 l) = l
-
-  sizes-judged : Judged (Line n m t Short) 1 4 (inOrder (sizes n m t))
-  unfolding judgeDimension judgeSize judgeLength
-  sizes-judged =
-      judged-cons (Line n m t Short) (omega arith) (omega arith) (omega arith) _ _
-      (judged-unless (Line n m t Short) 1 _ (λ e. line-1 (bounds-fail n n 4 .0 e)) (λ p l. bounds-fail n n 4 .1 (says-1 p l)))
-      (λ c1.
-      judged-cons (Line n m t Short) (omega arith) (omega arith) (omega arith) _ _
-      (judged-unless (Line n m t Short) 2 _ (λ e. line-2 (bounds-fail m (n * m) 1020 .0 e)) (λ p l. bounds-fail m (n * m) 1020 .1 (says-2 p l)))
-      (λ c2.
-      judged-one (Line n m t Short) (omega arith)
-      (judged-unless (Line n m t Short) 3 _ (λ e. line-3 (eqb-false (length t) (n * m) e)) (λ p l. ne-eqb (length t) (n * m) (says-3 p l)))))
-
-  -- where none of the lines 1 to 3 holds, n, m and the length are as they must be
-  clear-bounds : Clear (Line n m t Short) 1 4 → InBounds (tableMap n m t)
-  unfolding tableMap
-  clear-bounds none =
-      let some-n : ¬ (n ≡ 0) = λ z. none 1 0 (omega arith) (omega arith) (line-1 (inl z)) in
-      let small-n : ¬ (4 < n) = λ h. none 1 0 (omega arith) (omega arith) (line-1 (inr h)) in
-      let some-m : ¬ (m ≡ 0) = λ z. none 2 0 (omega arith) (omega arith) (line-2 (inl z)) in
-      let small-m : ¬ (1020 < n * m) = λ h. none 2 0 (omega arith) (omega arith) (line-2 (inr h)) in
-      omega arith
-
-  clear-long : Clear (Line n m t Short) 1 4 → length t ≡ n * m
-  clear-long none = dec→stable (ℕ-discrete (length t) (n * m)) (λ h. none 3 0 (omega arith) (omega arith) (line-3 h))
-
-  -- and where they are, none of them holds
-  bounds-1 : InBounds (tableMap n m t) → ¬ ((n ≡ 0) ⊎ (4 < n))
-  unfolding tableMap
-  bounds-1 b h = ⊎-elim (λ z. omega (arith, b .dim-least)) (λ over. omega (arith, b .dim-most)) h
-
-  bounds-2 : InBounds (tableMap n m t) → ¬ ((m ≡ 0) ⊎ (1020 < n * m))
-  unfolding tableMap
-  bounds-2 b h = ⊎-elim (λ z. omega (arith, b .darts-least)) (λ over. omega (arith, b .table-most)) h
-
-  bounds-clear : InBounds (tableMap n m t) → length t ≡ n * m → Clear (Line n m t Short) 1 4
-  bounds-clear b long k p low high (line-1 h) = bounds-1 b h
-  bounds-clear b long k p low high (line-2 h) = bounds-2 b h
-  bounds-clear b long k p low high (line-3 h) = h long
-  bounds-clear b long k p low high (line-4 h) = omega arith
-  bounds-clear b long k p low high (line-5-9 l) = omega (arith, map-number l)
-
-  -- none of the lines 1 to 9 holds exactly when the output has room and the table is that of an accepted map
-  table-clear : Clear (Line n m t Short) 1 10 ↔ (¬ Short) × (length t ≡ n * m) × Accepted (tableMap n m t)
-  table-clear = (to, back)
-    where
-      to : Clear (Line n m t Short) 1 10 → (¬ Short) × (length t ≡ n * m) × Accepted (tableMap n m t)
-      to none =
-          let sized : Clear (Line n m t Short) 1 4 = λ k p low high. none k p low (omega arith) in
-          let b : InBounds (tableMap n m t) = clear-bounds sized in
-          let o = map-clear (tableMap n m t) (b .darts-least) .0 (λ k d low high l. none k d (omega arith) high (line-5-9 l)) in
-          (λ h. none 4 0 (omega arith) (omega arith) (line-4 h), clear-long sized, record { bounds = b; open-map = o .0; connected = o .1 })
-
-      back : (¬ Short) × (length t ≡ n * m) × Accepted (tableMap n m t) → Clear (Line n m t Short) 1 10
-      back (room, long, a) k p low high (line-1 h) = bounds-1 (a .bounds) h
-      back (room, long, a) k p low high (line-2 h) = bounds-2 (a .bounds) h
-      back (room, long, a) k p low high (line-3 h) = h long
-      back (room, long, a) k p low high (line-4 h) = room h
-      back (room, long, a) k p low high (line-5-9 l) = map-clear (tableMap n m t) (a .bounds .darts-least) .1 (a .open-map, a .connected) k p (map-number l .0) high l
-
-  -- 1 to 9 in order, with the output's verdict as that of line 4
-  table-judged : (output : List Verdict) → Judged (Line n m t Short) 4 5 (inOrder output) → Judged (Line n m t Short) 1 10 (judgeTable n m t output)
-  unfolding judgeTable
-  table-judged output room =
-      judged-then (Line n m t Short) (omega arith) (omega arith) (omega arith) (sizes n m t) _ sizes-judged
-      (λ none.
-      let b : InBounds (tableMap n m t) = clear-bounds none in
-      judged-then (Line n m t Short) (omega arith) (omega arith) (omega arith) output _ room
-      (λ roomy.
-      judged-cong (MapLine (tableMap n m t)) (Line n m t Short) (λ k d low high. (line-5-9, says-5-9 k d low))
-      (map-judged (tableMap n m t) (b .darts-least) (b .dim-least))))
-
-module _ (n m : ℕ) (t : List ℕ) where
-  -- the plain check has no output: its line 4 never holds
-  pub check-judged : Judged (Line n m t ⊥) 1 10 (checkAnswer n m t)
-  unfolding checkAnswer inOrder
-  check-judged = table-judged n m t ⊥ [] (clear refl (clear-one (Line n m t ⊥) 4 (says-4 n m t ⊥)))
-
-  -- the check accepts exactly the tables of accepted maps
-  pub check-accepts : (checkAnswer n m t ≡ accepted) ↔ (length t ≡ n * m) × Accepted (tableMap n m t)
-  check-accepts =
-      let judged = judged-accepted (Line n m t ⊥) (omega arith) check-judged in
-      let lines = table-clear n m t ⊥ in
-      (λ e. let h = lines .0 (judged .0 e) in (h .1, h .2), λ h. judged .1 (lines .1 (λ never. never, h .0, h .1)))
-
-  -- it refuses exactly by the first line that holds, at its least place
-  pub check-refuses : (k p : ℕ) → 1 ≤ k → (checkAnswer n m t ≡ refused k p) ↔ First (Line n m t ⊥) 1 k p
-  check-refuses = judged-refused (Line n m t ⊥) (omega arith) check-judged (line-number n m t ⊥)
-
-  -- it shows 0, 1, 2, 3, 5, 6, 7, 8 or 9
-  pub check-number : (checkAnswer n m t .number ≤ 9) × (¬ (checkAnswer n m t .number ≡ 4))
-  check-number = at (checkAnswer n m t) (judged-number (Line n m t ⊥) (omega arith) check-judged)
-    where
-      at : (v : Verdict) → (v .number ≡ 0) ⊎ Line n m t ⊥ (v .number) (v .place) → (v .number ≤ 9) × (¬ (v .number ≡ 4))
-      at v (inl none) = omega arith
-      at v (inr l) = (omega (arith, line-number n m t ⊥ (v .number) (v .place) l), λ e. says-4 n m t ⊥ (v .place) (rw e at l))
-
-  -- an output that is accepted changes nothing
-  pub judge-passed : (output : List Verdict) → inOrder output ≡ accepted → judgeTable n m t output ≡ checkAnswer n m t
-  unfolding judgeTable checkAnswer
-  judge-passed output is =
-      let maps = judgeMap (tableMap n m t) in
-      inOrder-append (sizes n m t) (output ++ maps) ∙ rw (inOrder-append-passed output maps is) (sym (inOrder-append (sizes n m t) maps))
-
-  -- nor do 1, 2 and 3, where n, m and the length are as they must be
-  pub judge-sized : InBounds (tableMap n m t) → length t ≡ n * m → (output : List Verdict) → judgeTable n m t output ≡ inOrder (output ++ judgeMap (tableMap n m t))
-  unfolding judgeTable
-  judge-sized b long output =
-      inOrder-append-passed (sizes n m t) _ (judged-accepted (Line n m t ⊥) (omega arith) (sizes-judged n m t ⊥) .1 (bounds-clear n m t ⊥ b long))
-
-  -- a call with an output accepts exactly when that is accepted too
-  pub judge-accepts : (output : List Verdict) → (judgeTable n m t output ≡ accepted) ↔ (inOrder output ≡ accepted) × (length t ≡ n * m) × Accepted (tableMap n m t)
-  unfolding judgeTable
-  judge-accepts output = (to, λ h. judge-passed output (h .0) ∙ check-accepts .1 (h .1, h .2))
-    where
-      to : judgeTable n m t output ≡ accepted → (inOrder output ≡ accepted) × (length t ≡ n * m) × Accepted (tableMap n m t)
-      to e =
-          let maps = judgeMap (tableMap n m t) in
-          let room = inOrder-append-accepted output maps .0 (inOrder-append-accepted (sizes n m t) (output ++ maps) .0 e .1) .0 in
-          let a = check-accepts .0 (sym (judge-passed output room) ∙ e) in
-          (room, a .0, a .1)
-
-  -- a call that writes `needed` numbers to an output of length `room`
-  pub judge-judged : (needed room : ℕ) → Judged (Line n m t (room < needed)) 1 10 (judgeTable n m t (judgeRoom needed room ∷ []))
-  unfolding judgeRoom
-  judge-judged needed room =
-      table-judged n m t (room < needed) _
-      (judged-one (Line n m t (room < needed)) (omega arith)
-      (judged-unless (Line n m t (room < needed)) 4 _ (λ e. line-4 (leb-false needed room e)) (λ p l. lt-leb needed room (says-4 n m t (room < needed) p l))))
-
-  -- refuses exactly by the first line that holds, at its least place
-  pub judge-refuses : (needed room k p : ℕ) → 1 ≤ k → (judgeTable n m t (judgeRoom needed room ∷ []) ≡ refused k p) ↔ First (Line n m t (room < needed)) 1 k p
-  judge-refuses needed room = judged-refused (Line n m t (room < needed)) (omega arith) (judge-judged needed room) (line-number n m t (room < needed))
+-- no second answer of the plain check fits
+pub check-only : (g : Given) (r s : Judged) → r ≡ judgedOf (checkAnswer g) → s ≡ judgedOf (checkAnswer g) → r ≡ s
+check-only g r s a b = a ∙ sym b

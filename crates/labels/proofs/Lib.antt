@@ -3,7 +3,7 @@ pub mod Opened
 pub mod Pigeonhole
 pub mod Queue
 pub mod Reached
-pub mod Arrays
+pub mod Inside
 pub mod Carried
 pub mod Judging
-pub mod Answers
+pub mod Theorems

@@ -1,13 +1,13 @@
--- The laws of `specs/Labelling.antt`: labels, and the queue while darts are visited and served.
---     labelIn-le, nth-labelIn                    a label is a place, and the dart stands there
---     nth-labelled, labelIn-none, none-labelIn   a label is 0 exactly when the dart stands nowhere
+-- The laws of `specs/Queue.antt`: labels, and the queue while darts are visited and served.
+--     labelIn-le, nth-labelIn                    a label is a place, and the dart placed there
+--     nth-labelled, labelIn-none, none-labelIn   a label is 0 exactly when the dart placed nowhere
 --     labelIn-append-.., labelIn-snoc-..         labels when darts are put at the end
 --     Grown q q′                                 q′ is q with more at its end: labels and places stay (`grown-..`)
---     Met q d                                    what a visit does, as a sum to take apart
---     tried to q k                               a serving under way: β0 to βk have been tried
+--     Visited q d                                what a visit does, as a sum to take apart
+--     tried-..                                   a serving under way: β0 to βk have been tried
 --     serve-labels                               once d is served, what is sewn to it has a label
 --     served-still, served-labelling             past the queue's end nothing changes: there the labelling is done
---     ..-queue                                   q holds darts of M alone, and none twice (`Queue`): what keeps it
+--     ..-queue                                   q holds darts of M alone, and none twice (`DartsOnce`): what keeps it
 --     queue-short, queue-room                    it is no longer than there are darts
 --     served-ahead, served-next                  a dart is labelled before its turn to be served
 --     labelling-closed                           what is sewn to a labelled dart has a label
@@ -25,17 +25,18 @@ use lib.Dec.{eqb, ltb}
 use lib.ListN.{length, length-append}
 use Rattle.maps.specs.Least.{nth, upTo}
 use Rattle.maps.specs.Map.{Map, IsDart, sew}
+use Rattle.maps.specs.Accepted.{ToDarts}
 use Rattle.maps.proofs.Least.{Tested, passes, fails, tested, nth-past, nth-append, nth-snoc-at, nth-zero, map-append}
 use Rattle.maps.proofs.Map.{sew-zero, sewn-low}
-use Rattle.labels.specs.Arrays.{Queue}
-use Rattle.labels.specs.Labelling.{further, labelIn, visit, visits, serve, served, labelling}
+use Rattle.labels.specs.Inside.{DartsOnce}
+use Rattle.labels.specs.Queue.{further, labelIn, visit, visits, tried, serve, served, labelling}
 use Rattle.labels.proofs.Pigeonhole.{pigeonhole}
 
--- where d stands in a queue that starts with e
-data Stands (e : ℕ) (q : List ℕ) (d : ℕ) : Type 0 where
-  first : e ≡ d → labelIn (e ∷ q) d ≡ 1 → Stands e q d
-  later : (e ≡ d → ⊥) → 0 < labelIn q d → labelIn (e ∷ q) d ≡ labelIn q d + 1 → Stands e q d
-  nowhere : (e ≡ d → ⊥) → labelIn q d ≡ 0 → labelIn (e ∷ q) d ≡ 0 → Stands e q d
+-- where d placed in a queue that starts with e
+data Placed (e : ℕ) (q : List ℕ) (d : ℕ) : Type 0 where
+  first : e ≡ d → labelIn (e ∷ q) d ≡ 1 → Placed e q d
+  later : (e ≡ d → ⊥) → 0 < labelIn q d → labelIn (e ∷ q) d ≡ labelIn q d + 1 → Placed e q d
+  nowhere : (e ≡ d → ⊥) → labelIn q d ≡ 0 → labelIn (e ∷ q) d ≡ 0 → Placed e q d
 
 module _ (e : ℕ) (q : List ℕ) (d : ℕ) where
   labelIn-first : e ≡ d → labelIn (e ∷ q) d ≡ 1
@@ -50,10 +51,10 @@ module _ (e : ℕ) (q : List ℕ) (d : ℕ) where
   unfolding labelIn further
   labelIn-nowhere ne none = simp (ne-eqb e d ne, none)
 
-  stands : Stands e q d
-  stands = at (tested (eqb e d)) (eq-zero-or-pos (labelIn q d))
+  placed : Placed e q d
+  placed = at (tested (eqb e d)) (eq-zero-or-pos (labelIn q d))
     where
-      at : Tested (eqb e d) → (labelIn q d ≡ 0) ⊎ (0 < labelIn q d) → Stands e q d
+      at : Tested (eqb e d) → (labelIn q d ≡ 0) ⊎ (0 < labelIn q d) → Placed e q d
       at (passes h) s = let is = eqb-true e d h in first is (labelIn-first is)
       at (fails h) (inl none) = let ne = eqb-false e d h in nowhere ne none (labelIn-nowhere ne none)
       at (fails h) (inr pos) = let ne = eqb-false e d h in later ne pos (labelIn-later ne pos)
@@ -65,9 +66,9 @@ labelIn-nil d = refl
 -- a label is one of the places
 pub labelIn-le : (q : List ℕ) (d : ℕ) → labelIn q d ≤ length q
 labelIn-le [] d = rw labelIn-nil (omega arith)
-labelIn-le (e ∷ q) d = at (stands e q d) (labelIn-le q d)
+labelIn-le (e ∷ q) d = at (placed e q d) (labelIn-le q d)
   where
-    at : Stands e q d → labelIn q d ≤ length q → labelIn (e ∷ q) d ≤ suc (length q)
+    at : Placed e q d → labelIn q d ≤ length q → labelIn (e ∷ q) d ≤ suc (length q)
     at (first is l) h = omega arith
     at (later ne pos l) h = omega arith
     at (nowhere ne none l) h = omega arith
@@ -81,12 +82,12 @@ pub nth-one : (e : ℕ) (q : List ℕ) → nth (e ∷ q) 1 ≡ e
 unfolding nth
 nth-one e q = refl
 
--- d stands at the place that is its label
+-- d placed at the place that is its label
 pub nth-labelIn : (q : List ℕ) (d : ℕ) → 0 < labelIn q d → nth q (labelIn q d) ≡ d
 nth-labelIn [] d h = let z = labelIn-nil d in absurd (omega arith)
-nth-labelIn (e ∷ q) d h = at (stands e q d) (nth-labelIn q d)
+nth-labelIn (e ∷ q) d h = at (placed e q d) (nth-labelIn q d)
   where
-    at : Stands e q d → (0 < labelIn q d → nth q (labelIn q d) ≡ d) → nth (e ∷ q) (labelIn (e ∷ q) d) ≡ d
+    at : Placed e q d → (0 < labelIn q d → nth q (labelIn q d) ≡ d) → nth (e ∷ q) (labelIn (e ∷ q) d) ≡ d
     at (first is l) r = rw l (nth-one e q ∙ is)
     at (later ne pos l) r = rw l (nth-cons e q (labelIn q d) pos ∙ r pos)
     at (nowhere ne none l) r = absurd (omega arith)
@@ -96,9 +97,9 @@ pub labelIn-apart : (q : List ℕ) (d e : ℕ) → 0 < labelIn q d → labelIn q
 labelIn-apart q d e pos same = sym (nth-labelIn q d pos) ∙ ap (nth q) same ∙ nth-labelIn q e (rw same at pos)
 
 labelIn-cons : (e : ℕ) (q : List ℕ) (d : ℕ) → 0 < labelIn q d → 0 < labelIn (e ∷ q) d
-labelIn-cons e q d pos = at (stands e q d)
+labelIn-cons e q d pos = at (placed e q d)
   where
-    at : Stands e q d → 0 < labelIn (e ∷ q) d
+    at : Placed e q d → 0 < labelIn (e ∷ q) d
     at (first is l) = omega arith
     at (later ne h l) = omega arith
     at (nowhere ne none l) = absurd (omega arith)
@@ -107,7 +108,7 @@ pub nth-cons-suc : (e : ℕ) (q : List ℕ) (k : ℕ) → nth (e ∷ q) (suc (su
 unfolding nth
 nth-cons-suc e q k = refl
 
--- what stands at a place has a label
+-- what placed at a place has a label
 pub nth-labelled : (q : List ℕ) (k : ℕ) → 1 ≤ k → k ≤ length q → 0 < labelIn q (nth q k)
 nth-labelled [] k low high = absurd (omega arith)
 nth-labelled (e ∷ q) zero low high = absurd (omega arith)
@@ -123,13 +124,13 @@ place-labelled q (suc k) pos = at (tested (ltb (length q) (suc k)))
     at (passes past) = absurd (omega (arith, nth-past q (suc k) (ltb-true (length q) (suc k) past)))
     at (fails there) = nth-labelled q (suc k) (omega arith) (ltb-false (length q) (suc k) there)
 
--- a dart with label 0 stands at no place
+-- a dart with label 0 placed at no place
 pub labelIn-none : (q : List ℕ) (d : ℕ) → labelIn q d ≡ 0 → (k : ℕ) → 1 ≤ k → k ≤ length q → nth q k ≡ d → ⊥
 labelIn-none q d none k low high is =
     let h : 0 < labelIn q d = rw is at (nth-labelled q k low high) in
     omega arith
 
--- a dart that stands at no place has label 0
+-- a dart that placed at no place has label 0
 pub none-labelIn : (q : List ℕ) (d : ℕ) → ((k : ℕ) → 1 ≤ k → k ≤ length q → nth q k ≡ d → ⊥) → labelIn q d ≡ 0
 none-labelIn q d never = at (eq-zero-or-pos (labelIn q d))
   where
@@ -140,9 +141,9 @@ none-labelIn q d never = at (eq-zero-or-pos (labelIn q d))
 -- a label stays when darts are put at the end
 pub labelIn-append-kept : (q r : List ℕ) (d : ℕ) → 0 < labelIn q d → labelIn (q ++ r) d ≡ labelIn q d
 labelIn-append-kept [] r d h = let z = labelIn-nil d in absurd (omega arith)
-labelIn-append-kept (e ∷ q) r d h = at (stands e q d) (labelIn-append-kept q r d)
+labelIn-append-kept (e ∷ q) r d h = at (placed e q d) (labelIn-append-kept q r d)
   where
-    at : Stands e q d → (0 < labelIn q d → labelIn (q ++ r) d ≡ labelIn q d) → labelIn (e ∷ (q ++ r)) d ≡ labelIn (e ∷ q) d
+    at : Placed e q d → (0 < labelIn q d → labelIn (q ++ r) d ≡ labelIn q d) → labelIn (e ∷ (q ++ r)) d ≡ labelIn (e ∷ q) d
     at (first is l) rec = labelIn-first e (q ++ r) d is ∙ sym l
     at (later ne pos l) rec =
         let same : labelIn (q ++ r) d ≡ labelIn q d = rec pos in
@@ -153,9 +154,9 @@ labelIn-append-kept (e ∷ q) r d h = at (stands e q d) (labelIn-append-kept q r
 -- a dart that has no label in q has in q ++ r the label that it has in r, counted on
 pub labelIn-append-new : (q r : List ℕ) (d : ℕ) → labelIn q d ≡ 0 → 0 < labelIn r d → labelIn (q ++ r) d ≡ length q + labelIn r d
 labelIn-append-new [] r d none pos = omega arith
-labelIn-append-new (e ∷ q) r d none pos = at (stands e q d) (labelIn-append-new q r d)
+labelIn-append-new (e ∷ q) r d none pos = at (placed e q d) (labelIn-append-new q r d)
   where
-    at : Stands e q d → (labelIn q d ≡ 0 → 0 < labelIn r d → labelIn (q ++ r) d ≡ length q + labelIn r d) → labelIn (e ∷ (q ++ r)) d ≡ suc (length q) + labelIn r d
+    at : Placed e q d → (labelIn q d ≡ 0 → 0 < labelIn r d → labelIn (q ++ r) d ≡ length q + labelIn r d) → labelIn (e ∷ (q ++ r)) d ≡ suc (length q) + labelIn r d
     at (first is l) rec = absurd (omega arith)
     at (later ne h l) rec = absurd (omega arith)
     at (nowhere ne h l) rec =
@@ -165,9 +166,9 @@ labelIn-append-new (e ∷ q) r d none pos = at (stands e q d) (labelIn-append-ne
 
 pub labelIn-append-none : (q r : List ℕ) (d : ℕ) → labelIn q d ≡ 0 → labelIn r d ≡ 0 → labelIn (q ++ r) d ≡ 0
 labelIn-append-none [] r d none h = h
-labelIn-append-none (e ∷ q) r d none h = at (stands e q d) (labelIn-append-none q r d)
+labelIn-append-none (e ∷ q) r d none h = at (placed e q d) (labelIn-append-none q r d)
   where
-    at : Stands e q d → (labelIn q d ≡ 0 → labelIn r d ≡ 0 → labelIn (q ++ r) d ≡ 0) → labelIn (e ∷ (q ++ r)) d ≡ 0
+    at : Placed e q d → (labelIn q d ≡ 0 → labelIn r d ≡ 0 → labelIn (q ++ r) d ≡ 0) → labelIn (e ∷ (q ++ r)) d ≡ 0
     at (first is l) rec = absurd (omega arith)
     at (later ne pos l) rec = absurd (omega arith)
     at (nowhere ne z l) rec = labelIn-nowhere e (q ++ r) d ne (rec z h)
@@ -216,10 +217,10 @@ module _ {q q′ : List ℕ} (g : Grown q q′) where
   grown-nth k h = rw (g .is) (nth-append q (g .more) k h)
 
 -- what a visit does
-pub data Met (q : List ℕ) (d : ℕ) : Type 0 where
-  nothing : d ≡ 0 → visit q d ≡ q → Met q d
-  old : 0 < labelIn q d → visit q d ≡ q → Met q d
-  new : 0 < d → labelIn q d ≡ 0 → visit q d ≡ q ++ (d ∷ []) → Met q d
+pub data Visited (q : List ℕ) (d : ℕ) : Type 0 where
+  nothing : d ≡ 0 → visit q d ≡ q → Visited q d
+  old : 0 < labelIn q d → visit q d ≡ q → Visited q d
+  new : 0 < d → labelIn q d ≡ 0 → visit q d ≡ q ++ (d ∷ []) → Visited q d
 
 module _ (q : List ℕ) (d : ℕ) where
   pub visit-nothing : d ≡ 0 → visit q d ≡ q
@@ -238,27 +239,27 @@ module _ (q : List ℕ) (d : ℕ) where
   unfolding visit
   visit-new pos none = simp (ne-eqb d 0 (λ z. omega arith), none)
 
-  pub met : Met q d
-  met = at (eq-zero-or-pos d) (eq-zero-or-pos (labelIn q d))
+  pub visited : Visited q d
+  visited = at (eq-zero-or-pos d) (eq-zero-or-pos (labelIn q d))
     where
-      at : (d ≡ 0) ⊎ (0 < d) → (labelIn q d ≡ 0) ⊎ (0 < labelIn q d) → Met q d
+      at : (d ≡ 0) ⊎ (0 < d) → (labelIn q d ≡ 0) ⊎ (0 < labelIn q d) → Visited q d
       at (inl z) s = nothing z (visit-nothing z)
       at (inr pos) (inr has) = old has (visit-old has)
       at (inr pos) (inl none) = new pos none (visit-new pos none)
 
   pub visit-grown : Grown q (visit q d)
-  visit-grown = at met
+  visit-grown = at visited
     where
-      at : Met q d → Grown q (visit q d)
+      at : Visited q d → Grown q (visit q d)
       at (nothing z v) = grown-same v
       at (old has v) = grown-same v
       at (new pos none v) = record { more = d ∷ []; is = v }
 
   -- a dart visited has a label
   pub visit-labels : 0 < d → 0 < labelIn (visit q d) d
-  visit-labels pos = at met
+  visit-labels pos = at visited
     where
-      at : Met q d → 0 < labelIn (visit q d) d
+      at : Visited q d → 0 < labelIn (visit q d) d
       at (nothing z v) = absurd (omega arith)
       at (old has v) = rw v has
       at (new p none v) = rw v (let l = labelIn-snoc-new q d none in omega arith)
@@ -281,59 +282,52 @@ visits-grown q (d ∷ ds) = grown-trans (visit-grown q d) (visits-grown (visit q
 pub visits-kept : (q ds : List ℕ) (e : ℕ) → 0 < labelIn q e → labelIn (visits q ds) e ≡ labelIn q e
 visits-kept q ds e = grown-label (visits-grown q ds) e
 
--- the queue q once what `to` gives at 0, 1, .. k is visited
-unfoldable pub tried : (ℕ → ℕ) → List ℕ → ℕ → List ℕ
-tried to q k = visits q (map to (0 ∷ upTo k))
-
-module _ (to : ℕ → ℕ) (q : List ℕ) where
-  pub tried-zero : tried to q 0 ≡ visit q (to 0)
+module _ (M : Map) (q : List ℕ) (d : ℕ) where
+  pub tried-zero : tried M q d 0 ≡ visit q (sew M 0 d)
   unfolding tried visits upTo
   tried-zero = refl
 
-  pub tried-suc : (k : ℕ) → tried to q (suc k) ≡ visit (tried to q k) (to (suc k))
+  pub tried-suc : (k : ℕ) → tried M q d (suc k) ≡ visit (tried M q d k) (sew M (suc k) d)
   unfolding tried visits upTo
-  tried-suc k = rw map-append (visits-append q (map to (0 ∷ upTo k)) (to (suc k) ∷ []))
+  tried-suc k = rw map-append (visits-append q (map (λ i. sew M i d) (0 ∷ upTo k)) (sew M (suc k) d ∷ []))
 
-  pub tried-grown : (k : ℕ) → Grown q (tried to q k)
-  unfolding tried
-  tried-grown k = visits-grown q (map to (0 ∷ upTo k))
+  -- what is tried later only adds to the queue
+  pub tried-grown : (i k : ℕ) → i ≤ k → Grown (tried M q d i) (tried M q d k)
+  tried-grown i zero h = grown-same (ap (tried M q d) (let z : i ≡ 0 = omega arith in sym z))
+  tried-grown i (suc k) h =
+      ⊎-elim
+      (λ below. grown-trans (tried-grown i k below) (rw (tried-suc k) (visit-grown _ _)))
+      (λ same. grown-same (ap (tried M q d) (sym same)))
+      (le-suc-iff .0 h)
 
   -- each dart tried has a label
-  pub tried-labels : (k i : ℕ) → i ≤ k → 0 < to i → 0 < labelIn (tried to q k) (to i)
-  tried-labels zero i h pos =
-      let z : i ≡ 0 = omega arith in
-      rw (z, tried-zero) (visit-labels q (to 0) (rw z at pos))
-  tried-labels (suc k) i h pos =
-      rw tried-suc
-      (⊎-elim
-      (λ le. grown-labelled (visit-grown (tried to q k) (to (suc k))) (to i) (tried-labels k i le pos))
-      (λ e. rw e (visit-labels (tried to q k) (to (suc k)) (rw e at pos)))
-      (le-suc-iff .0 h))
+  pub tried-labels : (k i : ℕ) → i ≤ k → 0 < sew M i d → 0 < labelIn (tried M q d k) (sew M i d)
+  tried-labels k i h pos = grown-labelled (tried-grown i k h) (sew M i d) (at i pos)
+    where
+      at : (i : ℕ) → 0 < sew M i d → 0 < labelIn (tried M q d i) (sew M i d)
+      at zero pos = rw tried-zero (visit-labels q (sew M 0 d) pos)
+      at (suc i) pos = rw (tried-suc i) (visit-labels (tried M q d i) (sew M (suc i) d) pos)
 
-  -- where there is nothing to try, nothing changes
-  pub tried-none : ((i : ℕ) → to i ≡ 0) → (k : ℕ) → tried to q k ≡ q
-  tried-none none zero = tried-zero ∙ visit-nothing q (to 0) (none 0)
-  tried-none none (suc k) = tried-suc k ∙ visit-nothing (tried to q k) (to (suc k)) (none (suc k)) ∙ tried-none none k
+  pub serve-tried : serve M q d ≡ tried M q d (M .dim)
+  unfolding serve
+  serve-tried = refl
 
-module _ (M : Map) (q : List ℕ) where
-  pub serve-tried : (d : ℕ) → serve M q d ≡ tried (λ i. sew M i d) q (M .dim)
+  pub serve-grown : Grown q (serve M q d)
   unfolding serve tried
-  serve-tried d = refl
-
-  pub serve-grown : (d : ℕ) → Grown q (serve M q d)
-  serve-grown d = rw serve-tried (tried-grown (λ i. sew M i d) q (M .dim))
-
-  -- a label once given stays
-  pub serve-kept : (d e : ℕ) → 0 < labelIn q e → labelIn (serve M q d) e ≡ labelIn q e
-  serve-kept d e = grown-label (serve-grown d) e
+  serve-grown = visits-grown q (map (λ i. sew M i d) (0 ∷ upTo (M .dim)))
 
   -- once d is served, what is sewn to it has a label
-  pub serve-labels : (d i : ℕ) → 0 < sew M i d → 0 < labelIn (serve M q d) (sew M i d)
-  serve-labels d i pos = rw serve-tried (tried-labels (λ j. sew M j d) q (M .dim) i (sewn-low M i d pos) pos)
+  pub serve-labels : (i : ℕ) → 0 < sew M i d → 0 < labelIn (serve M q d) (sew M i d)
+  serve-labels i pos = rw serve-tried (tried-labels (M .dim) i (sewn-low M i d pos) pos)
 
-  -- 0 has nothing to serve
+module _ (M : Map) (q : List ℕ) where
+  -- 0 has nothing to try
+  tried-nothing : (k : ℕ) → tried M q 0 k ≡ q
+  tried-nothing zero = tried-zero M q 0 ∙ visit-nothing q (sew M 0 0) (sew-zero M 0 0)
+  tried-nothing (suc k) = tried-suc M q 0 k ∙ visit-nothing (tried M q 0 k) (sew M (suc k) 0) (sew-zero M (suc k) 0) ∙ tried-nothing k
+
   pub serve-nothing : serve M q 0 ≡ q
-  serve-nothing = serve-tried 0 ∙ tried-none (λ i. sew M i 0) q (λ i. sew-zero M i 0) (M .dim)
+  serve-nothing = serve-tried M q 0 ∙ tried-nothing (M .dim)
 
 module _ (M : Map) (d : ℕ) where
   pub served-zero : served M d 0 ≡ d ∷ []
@@ -392,7 +386,7 @@ module _ (M : Map) (d : ℕ) where
   pub labelling-first : nth (labelling M d) 1 ≡ d
   labelling-first = rw labelling-start at (nth-labelIn (labelling M d) d (let one = labelling-start in omega arith))
 
-module _ {M : Map} {q : List ℕ} (u : Queue M q) where
+module _ {M : Map} {q : List ℕ} (u : DartsOnce M q) where
   -- what has a label is a dart
   pub queue-dart : (e : ℕ) → 0 < labelIn q e → IsDart M e
   queue-dart e pos = rw (nth-labelIn q e pos) at (u .of-darts (labelIn q e) pos (labelIn-le q e))
@@ -408,7 +402,7 @@ module _ {M : Map} {q : List ℕ} (u : Queue M q) where
       (record { within = u .of-darts; apart = λ j k lj hj lk hk same. sym (u .once j lj hj) ∙ ap (labelIn q) same ∙ u .once k lk hk })
 
   -- a new dart at the end
-  pub queue-snoc : (e : ℕ) → IsDart M e → labelIn q e ≡ 0 → Queue M (q ++ (e ∷ []))
+  pub queue-snoc : (e : ℕ) → IsDart M e → labelIn q e ≡ 0 → DartsOnce M (q ++ (e ∷ []))
   queue-snoc e dart none = record { of-darts = λ k low high. at k (place k high) low; once = λ k low high. at-once k (place k high) low }
     where
       place : (k : ℕ) → k ≤ length (q ++ (e ∷ [])) → (k ≤ length q) ⊎ (k ≡ suc (length q))
@@ -424,46 +418,37 @@ module _ {M : Map} {q : List ℕ} (u : Queue M q) where
       at-once k (inr z) low = rw (z, nth-snoc-at q e (length q) refl) (labelIn-snoc-new q e none ∙ add-one (length q))
 
 -- while a dart has no label, the queue is shorter than that
-pub queue-room : {M : Map} {q : List ℕ} → Queue M q → (e : ℕ) → IsDart M e → labelIn q e ≡ 0 → length q < M .darts
+pub queue-room : {M : Map} {q : List ℕ} → DartsOnce M q → (e : ℕ) → IsDart M e → labelIn q e ≡ 0 → length q < M .darts
 queue-room {M} {q} u e dart none = rw (length-append, add-one) at (queue-short (queue-snoc u e dart none))
 
-empty-queue : (M : Map) → Queue M []
+empty-queue : (M : Map) → DartsOnce M []
 empty-queue M = record { of-darts = λ k low high. absurd (omega arith); once = λ k low high. absurd (omega arith) }
 
-pub start-queue : (M : Map) (d : ℕ) → IsDart M d → Queue M (d ∷ [])
+pub start-queue : (M : Map) (d : ℕ) → IsDart M d → DartsOnce M (d ∷ [])
 start-queue M d dart = queue-snoc (empty-queue M) d dart (labelIn-nil d)
 
-pub visit-queue : {M : Map} {q : List ℕ} → Queue M q → (d : ℕ) → d ≤ M .darts → Queue M (visit q d)
-visit-queue {M} {q} u d high = at (met q d)
+pub visit-queue : {M : Map} {q : List ℕ} → DartsOnce M q → (d : ℕ) → d ≤ M .darts → DartsOnce M (visit q d)
+visit-queue {M} {q} u d high = at (visited q d)
   where
-    at : Met q d → Queue M (visit q d)
+    at : Visited q d → DartsOnce M (visit q d)
     at (nothing z v) = rw v u
     at (old has v) = rw v u
     at (new pos none v) = rw v (queue-snoc u d (pos, high) none)
 
-tail-le : (d : ℕ) (ds : List ℕ) (m : ℕ) → ((k : ℕ) → nth (d ∷ ds) k ≤ m) → (k : ℕ) → nth ds k ≤ m
-tail-le d ds m all zero = rw nth-zero (omega arith)
-tail-le d ds m all (suc k) = rw nth-cons-suc at (all (suc (suc k)))
+module _ (M : Map) (to-darts : ToDarts M) where
+  pub tried-queue : {q : List ℕ} → DartsOnce M q → (d k : ℕ) → DartsOnce M (tried M q d k)
+  tried-queue u d zero = rw tried-zero (visit-queue u (sew M 0 d) (to-darts 0 d))
+  tried-queue u d (suc k) = rw tried-suc (visit-queue (tried-queue u d k) (sew M (suc k) d) (to-darts (suc k) d))
 
-pub visits-queue : {M : Map} {q : List ℕ} → Queue M q → (ds : List ℕ) → ((k : ℕ) → nth ds k ≤ M .darts) → Queue M (visits q ds)
-unfolding visits
-visits-queue u [] all = u
-visits-queue {M} u (d ∷ ds) all = visits-queue (visit-queue u d (rw nth-one at (all 1))) ds (tail-le d ds (M .darts) all)
-
-pub tried-queue : {M : Map} {q : List ℕ} → Queue M q → (to : ℕ → ℕ) → ((i : ℕ) → to i ≤ M .darts) → (k : ℕ) → Queue M (tried to q k)
-tried-queue u to high zero = rw tried-zero (visit-queue u (to 0) (high 0))
-tried-queue u to high (suc k) = rw tried-suc (visit-queue (tried-queue u to high k) (to (suc k)) (high (suc k)))
-
-module _ (M : Map) (to-darts : (i d : ℕ) → sew M i d ≤ M .darts) where
-  pub serve-queue : {q : List ℕ} → Queue M q → (d : ℕ) → Queue M (serve M q d)
-  serve-queue u d = rw serve-tried (tried-queue u (λ i. sew M i d) (λ i. to-darts i d) (M .dim))
+  pub serve-queue : {q : List ℕ} → DartsOnce M q → (d : ℕ) → DartsOnce M (serve M q d)
+  serve-queue u d = rw serve-tried (tried-queue u d (M .dim))
 
   module _ (d : ℕ) (dart : IsDart M d) where
-    pub served-queue : (k : ℕ) → Queue M (served M d k)
+    pub served-queue : (k : ℕ) → DartsOnce M (served M d k)
     served-queue zero = rw served-zero (start-queue M d dart)
     served-queue (suc k) = rw served-suc (serve-queue (served-queue k) (nth (served M d k) (suc k)))
 
-    pub labelling-queue : Queue M (labelling M d)
+    pub labelling-queue : DartsOnce M (labelling M d)
     labelling-queue = rw labelling-served (served-queue (M .darts))
 
     pub labelling-short : length (labelling M d) ≤ M .darts

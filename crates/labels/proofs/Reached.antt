@@ -15,16 +15,16 @@ use lib.Dec.{eqb}
 use lib.ListN.{length}
 use Rattle.maps.specs.Least.{nth}
 use Rattle.maps.specs.Map.{Map, IsDart, sew}
-use Rattle.maps.specs.Accepted.{Path, here, on, Accepted}
+use Rattle.maps.specs.Accepted.{ToDarts, Path, here, on, Accepted}
 use Rattle.maps.proofs.Least.{Tested, passes, fails, tested}
 use Rattle.maps.proofs.Map.{sewn-dart}
-use Rattle.maps.proofs.Paths.{all-reached}
-use Rattle.labels.specs.Labelling.{labelIn, visit, serve, served, labelling}
+use Rattle.maps.proofs.Accepted.{all-reached}
+use Rattle.labels.specs.Queue.{labelIn, visit, tried, serve, served, labelling}
 use Rattle.labels.proofs.Pigeonhole.{pigeonhole}
 use Rattle.labels.proofs.Queue.{labelIn-le, nth-labelIn, place-labelled, labelIn-apart, labelIn-snoc-other}
-use Rattle.labels.proofs.Queue.{Met, nothing, old, new, met, tried, tried-zero, tried-suc, serve-tried, served-zero, served-suc}
+use Rattle.labels.proofs.Queue.{Visited, nothing, old, new, visited, tried-zero, tried-suc, serve-tried, served-zero, served-suc}
 use Rattle.labels.proofs.Queue.{labelling-served, labelling-start, labelling-closed, queue-short, labelling-queue}
-use Rattle.labels.specs.Arrays.{Queue}
+use Rattle.labels.specs.Inside.{DartsOnce}
 
 -- every dart that has a label is a P
 abbrev Labelled : (ℕ → Type 0) → List ℕ → Type 0
@@ -32,17 +32,17 @@ Labelled P q = (e : ℕ) → 0 < labelIn q e → P e
 
 module _ (P : ℕ → Type 0) where
   visit-each : (q : List ℕ) (d : ℕ) → Labelled P q → (0 < d → P d) → Labelled P (visit q d)
-  visit-each q d all p e pos = at (met q d) (tested (eqb e d))
+  visit-each q d all p e pos = at (visited q d) (tested (eqb e d))
     where
-      at : Met q d → Tested (eqb e d) → P e
+      at : Visited q d → Tested (eqb e d) → P e
       at (nothing z v) t = all e (rw v at pos)
       at (old has v) t = all e (rw v at pos)
       at (new h none v) (passes is) = rw (eqb-true e d is) (p h)
       at (new h none v) (fails ne) = all e (rw (v, labelIn-snoc-other q e d (eqb-false e d ne)) at pos)
 
-  tried-each : (to : ℕ → ℕ) (q : List ℕ) (k : ℕ) → Labelled P q → ((i : ℕ) → 0 < to i → P (to i)) → Labelled P (tried to q k)
-  tried-each to q zero all p = rw tried-zero (visit-each q (to 0) all (p 0))
-  tried-each to q (suc k) all p = rw tried-suc (visit-each (tried to q k) (to (suc k)) (tried-each to q k all p) (p (suc k)))
+  tried-each : (M : Map) (q : List ℕ) (d k : ℕ) → Labelled P q → ((i : ℕ) → 0 < sew M i d → P (sew M i d)) → Labelled P (tried M q d k)
+  tried-each M q d zero all p = rw tried-zero (visit-each q (sew M 0 d) all (p 0))
+  tried-each M q d (suc k) all p = rw tried-suc (visit-each (tried M q d k) (sew M (suc k) d) (tried-each M q d k all p) (p (suc k)))
 
   start-each : (d : ℕ) → P d → Labelled P (d ∷ [])
   start-each d p e pos = at (tested (eqb e d))
@@ -53,7 +53,7 @@ module _ (P : ℕ → Type 0) where
 
   module _ (M : Map) (step : (i e : ℕ) → P e → 0 < sew M i e → P (sew M i e)) where
     serve-each : (q : List ℕ) (k : ℕ) → Labelled P q → Labelled P (serve M q (nth q k))
-    serve-each q k all = rw serve-tried (tried-each (λ i. sew M i (nth q k)) q (M .dim) all sewn)
+    serve-each q k all = rw serve-tried (tried-each M q (nth q k) (M .dim) all sewn)
       where
         sewn : (i : ℕ) → 0 < sew M i (nth q k) → P (sew M i (nth q k))
         sewn i pos = step i (nth q k) (all (nth q k) (place-labelled q k (sewn-dart M i (nth q k) pos .0))) pos
@@ -68,7 +68,7 @@ pub labelled-reached : (M : Map) (d e : ℕ) → 0 < labelIn (labelling M d) e �
 labelled-reached M d e pos = served-each (Path M d) M (λ i f p h. on i p refl h) d here (M .darts) e (rw labelling-served at pos)
 
 -- and backward: a dart that is reached has a label
-pub reached-labelled : (M : Map) (to-darts : (i d : ℕ) → sew M i d ≤ M .darts) (d : ℕ) → IsDart M d → (e : ℕ) → Path M d e → 0 < labelIn (labelling M d) e
+pub reached-labelled : (M : Map) (to-darts : ToDarts M) (d : ℕ) → IsDart M d → (e : ℕ) → Path M d e → 0 < labelIn (labelling M d) e
 reached-labelled M to-darts d dart e here = let one = labelling-start M d in omega arith
 reached-labelled M to-darts d dart f (on {e = e} i p is pos) =
     rw is at (labelling-closed M to-darts d dart i e (reached-labelled M to-darts d dart e p) (rw is pos))
@@ -83,7 +83,7 @@ pub record Numbering (M : Map) (q : List ℕ) : Type 0 where
   pub at-label : (e : ℕ) → IsDart M e → nth q (labelIn q e) ≡ e
 
 -- a queue that gives every dart a label lists them
-pub queue-numbers : {M : Map} {q : List ℕ} → Queue M q → ((e : ℕ) → IsDart M e → 0 < labelIn q e) → Numbering M q
+pub queue-numbers : {M : Map} {q : List ℕ} → DartsOnce M q → ((e : ℕ) → IsDart M e → 0 < labelIn q e) → Numbering M q
 queue-numbers {M} {q} u all =
     record {
       long = whole;

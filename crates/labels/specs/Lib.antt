@@ -1,4 +1,5 @@
 -- The labelling, and the plain check of a dart table. Read in this order.
-pub mod Labelling
-pub mod Check
-pub mod Arrays
+pub mod Queue
+pub mod Judging
+pub mod Theorems
+pub mod Inside

@@ -1,20 +1,17 @@
 // The labelling of a map, the darts that it reaches, and the plain check of a dart table.
 ghost use mathlib.Core.Path.{_≡_};
-ghost use Prim.Native.Nat.{_≤_, _<_};
+ghost use Prim.Native.Nat.{_≤_};
 ghost use lib.ListN.{take, replicate};
-ghost use Rattle.maps.specs.Map.{IsDart, tableMap};
-ghost use Rattle.maps.specs.Judged.{JudgedAs, judgeOutput, judgedOf, backsOf};
-ghost use Rattle.labels.specs.Labelling.{labelIn, visit, serve, labelling};
-ghost use Rattle.labels.specs.Check.{notReached, judgeTable, checkAnswer};
-ghost use Rattle.labels.specs.Arrays.{Holds, Sewn, Meeting, rowMet};
+ghost use Rattle.maps.specs.Given.{lent, mapOf};
+ghost use Rattle.maps.specs.Answer.{judgedOf};
+ghost use Rattle.labels.specs.Queue.{visit};
+ghost use Rattle.labels.specs.Judging.{notReached, checkAnswer, Judges};
+ghost use Rattle.labels.specs.Inside.{Holds, Meets, Sewn, Serves, Served, Starts, Reaches, notLabelled, Forgets};
 use maps::Judged;
 use maps::Output;
-use maps::Sewings;
 
-// The labelling under way: the label of each dart, at index d - 1, and the darts in the order labelled.
+// The labelling under way: how many labels are given.
 struct Labelling {
-    labels: [u16; 1020],
-    queue: [u16; 1020],
     given: usize,
 }
 
@@ -24,106 +21,78 @@ fn wide(x: u16) -> usize
     x as usize
 }
 
-// A dart is met: it gets the next label where it has none. 0 is no dart.
-fn meet(labels: &mut [u16; 1020], queue: &mut [u16; 1020], given: usize, e: usize) -> usize
-    requires { ⌜ Holds (now labels) (now queue) given (take given (now queue)) × (e ≤ 1020) × (1 ≤ e → labelIn (take given (now queue)) e ≡ 0 → given < 1020) ⌝ }
-    ensures { λ r. ⌜ Holds (now (labels .exit)) (now (queue .exit)) r (visit (take given (now (queue .entry))) e) ⌝ }
-{
-    if e == 0 {
-        return given;
+impl Labelling {
+    // A dart is met: it gets the next label where it has none. 0 is no dart.
+    fn meet(self, labels: &mut [u16; 1020], queue: &mut [u16; 1020], e: usize) -> Labelling
+        requires { ⌜ Meets (now labels) (now queue) (self .given) e ⌝ }
+        ensures { λ r. ⌜ Holds (now (labels .exit)) (now (queue .exit)) (r .given) (visit (take (self .given) (now (queue .entry))) e) ⌝ }
+    {
+        if e == 0 {
+            return self;
+        }
+        if wide(labels[e - 1]) != 0 {
+            return self;
+        }
+        let given = self.given;
+        labels[e - 1] = (given + 1) as u16;
+        queue[given] = e as u16;
+        Labelling { given: given + 1 }
     }
-    if wide(labels[e - 1]) != 0 {
-        return given;
+
+    // A dart is served: it meets β0, β1, .. βn of itself.
+    fn serve(
+        self,
+        n: usize,
+        m: usize,
+        table: &[u16],
+        back: &[u16; 1020],
+        labels: &mut [u16; 1020],
+        queue: &mut [u16; 1020],
+        d: usize,
+    ) -> Labelling
+        requires { ⌜ Serves (lent n m (now table)) (now back) d (now labels) (now queue) (self .given) ⌝ }
+        ensures { λ r. ⌜ Served (lent n m (now (table .entry))) d (take (self .given) (now (queue .entry))) (now (labels .exit)) (now (queue .exit)) (r .given) ⌝ }
+    {
+        let mut labelling = self.meet(labels, queue, wide(back[d - 1]));
+        let row = (d - 1) * n;
+        let mut i = 0;
+        while i < n {
+            labelling = labelling.meet(labels, queue, wide(table[row + i]));
+            i += 1;
+        }
+        labelling
     }
-    labels[e - 1] = (given + 1) as u16;
-    queue[given] = e as u16;
-    given + 1
 }
 
-// The darts β1, .. βn of d are met.
-fn meet_row(
-    n: usize,
-    m: usize,
-    table: &[u16],
-    labels: &mut [u16; 1020],
-    queue: &mut [u16; 1020],
-    given: usize,
-    d: usize,
-) -> usize
-    requires { ⌜ Meeting n m (now table) d (now labels) (now queue) given ⌝ }
-    ensures { λ r. ⌜ Holds (now (labels .exit)) (now (queue .exit)) r (rowMet (tableMap n m (now (table .entry))) (take given (now (queue .entry))) d n) ⌝ }
-{
-    let row = (d - 1) * n;
-    let mut count = given;
-    let mut i = 0;
-    while i < n {
-        count = meet(labels, queue, count, wide(table[row + i]));
-        i += 1;
-    }
-    count
-}
-
-// A dart is served: it meets β0, β1, .. βn of itself.
-fn serve_dart(
+// The labelling from dart 1, run to its end.
+fn reach(
     n: usize,
     m: usize,
     table: &[u16],
     back: &[u16; 1020],
     labels: &mut [u16; 1020],
     queue: &mut [u16; 1020],
-    given: usize,
-    d: usize,
-) -> usize
-    requires { ⌜ Meeting n m (now table) d (now labels) (now queue) given × (now back ≡ backsOf (tableMap n m (now table))) ⌝ }
-    ensures { λ r. ⌜ Holds (now (labels .exit)) (now (queue .exit)) r (serve (tableMap n m (now (table .entry))) (take given (now (queue .entry))) d) ⌝ }
+) -> Labelling
+    requires { ⌜ Starts (lent n m (now table)) (now back) (now labels) (now queue) ⌝ }
+    ensures { λ r. ⌜ Reaches (lent n m (now (table .entry))) (now (labels .exit)) (now (queue .exit)) (r .given) ⌝ }
 {
-    let count = meet(labels, queue, given, wide(back[d - 1]));
-    meet_row(n, m, table, labels, queue, count, d)
+    labels[0] = 1;
+    queue[0] = 1;
+    let mut labelling = Labelling { given: 1 };
+    let mut k = 0;
+    while k < labelling.given {
+        let served = wide(queue[k]);
+        labelling = labelling.serve(n, m, table, back, labels, queue, served);
+        k += 1;
+    }
+    labelling
 }
 
-impl Labelling {
-    // No dart has a label.
-    fn blank() -> Labelling
-        ensures { λ r. ⌜ (r .labels ≡ replicate 1020 0) × (r .queue ≡ replicate 1020 0) × (r .given ≡ 0) ⌝ }
-    {
-        Labelling {
-            labels: [0; 1020],
-            queue: [0; 1020],
-            given: 0,
-        }
-    }
-
-    // The labelling from dart d, run to its end.
-    fn from(self, n: usize, m: usize, table: &[u16], back: &[u16; 1020], d: usize) -> Labelling
-        requires { ⌜ Sewn n m (now table) (now back) × IsDart (tableMap n m (now table)) d × (self .labels ≡ replicate 1020 0) × (self .queue ≡ replicate 1020 0) ⌝ }
-        ensures { λ r. ⌜ Holds (r .labels) (r .queue) (r .given) (labelling (tableMap n m (now (table .entry))) d) ⌝ }
-    {
-        let mut labels = self.labels;
-        let mut queue = self.queue;
-        labels[d - 1] = 1;
-        queue[0] = d as u16;
-        let mut given = 1;
-        let mut k = 0;
-        while k < given {
-            let served = wide(queue[k]);
-            given = serve_dart(n, m, table, back, &mut labels, &mut queue, given, served);
-            k += 1;
-        }
-        Labelling {
-            labels,
-            queue,
-            given,
-        }
-    }
-}
-
-// The least dart that dart 1 does not reach, or 0.
-fn not_reached(n: usize, m: usize, table: &[u16], back: &[u16; 1020]) -> usize
-    requires { ⌜ Sewn n m (now table) (now back) ⌝ }
-    ensures { λ r. ⌜ r ≡ notReached (tableMap n m (now (table .entry))) ⌝ }
+// The least dart that has no label, or 0.
+fn not_labelled(m: usize, labels: &[u16; 1020]) -> usize
+    requires { ⌜ m ≤ 1020 ⌝ }
+    ensures { λ r. ⌜ r ≡ notLabelled m (now (labels .entry)) ⌝ }
 {
-    let reached = Labelling::blank().from(n, m, table, back, 1);
-    let labels = reached.labels;
     let mut d = 1;
     while d <= m {
         if wide(labels[d - 1]) == 0 {
@@ -134,30 +103,67 @@ fn not_reached(n: usize, m: usize, table: &[u16], back: &[u16; 1020]) -> usize
     0
 }
 
-// Rules 1 to 9, in order, for whatever a caller hands in; with β0 of each dart where the map is accepted.
-pub fn judge(n: usize, m: usize, table: &[u16], output: Output) -> Sewings
-    ensures { λ r. ⌜ JudgedAs (tableMap n m (now (table .entry))) (judgeTable n m (now (table .entry)) (judgeOutput output n m)) r ⌝ }
+// The labels given are forgotten.
+fn forget(labels: &mut [u16; 1020], queue: &[u16; 1020], given: usize)
+    requires { ⌜ Forgets (now labels) (now queue) given ⌝ }
+    ensures { λ _. ⌜ now (labels .exit) ≡ replicate 1020 0 ⌝ }
 {
-    let sewn = maps::judge(n, m, table, output);
-    let judged = sewn.judged;
+    let mut k = 0;
+    while k < given {
+        labels[wide(queue[k]) - 1] = 0;
+        k += 1;
+    }
+}
+
+// The least dart that dart 1 does not reach, or 0. No dart has a label before, and none afterwards.
+fn not_reached(
+    n: usize,
+    m: usize,
+    table: &[u16],
+    back: &[u16; 1020],
+    labels: &mut [u16; 1020],
+) -> usize
+    requires { ⌜ Sewn (lent n m (now table)) (now back) × (now labels ≡ replicate 1020 0) ⌝ }
+    ensures { λ r. ⌜ (r ≡ notReached (mapOf (lent n m (now (table .entry))))) × (now (labels .exit) ≡ replicate 1020 0) ⌝ }
+{
+    let mut queue = [0u16; 1020];
+    let reached = reach(n, m, table, back, labels, &mut queue);
+    let place = not_labelled(m, labels);
+    let given = reached.given;
+    forget(labels, &queue, given);
+    place
+}
+
+// Rules 1 to 9, in order, for whatever a caller hands in. The lent array `back` then holds β0 of each dart, at index d - 1,
+// where the map is accepted, and zeros where the table is refused; `labels` is room to work in, and holds zeros afterwards.
+pub fn judge(
+    n: usize,
+    m: usize,
+    table: &[u16],
+    output: Output,
+    back: &mut [u16; 1020],
+    labels: &mut [u16; 1020],
+) -> Judged
+    ensures { λ r. ⌜ Judges output (lent n m (now (table .entry))) r (now (back .exit)) (now (labels .exit)) ⌝ }
+{
+    *labels = [0; 1020];
+    let judged = maps::judge(n, m, table, output, back);
     let Judged::Passed = judged else {
-        return sewn;
+        return judged;
     };
-    let back = sewn.back;
-    let place = not_reached(n, m, table, &back);
+    let place = not_reached(n, m, table, back, labels);
     if place == 0 {
-        return sewn;
+        return Judged::Passed;
     }
-    Sewings {
-        judged: Judged::Refused { number: 9, place },
-        back: [0; 1020],
-    }
+    *back = [0; 1020];
+    Judged::Refused { number: 9, place }
 }
 
 // The plain check of a dart table.
 pub fn check(n: usize, m: usize, table: &[u16]) -> Judged
-    ensures { λ r. ⌜ r ≡ judgedOf (checkAnswer n m (now (table .entry))) ⌝ }
+    ensures { λ r. ⌜ r ≡ judgedOf (checkAnswer (lent n m (now (table .entry)))) ⌝ }
 {
-    let sewn = judge(n, m, table, Output::Nothing);
-    sewn.judged
+    let mut back = [0u16; 1020];
+    let mut labels = [0u16; 1020];
+    judge(n, m, table, Output::Nothing, &mut back, &mut labels)
 }

@@ -4,15 +4,21 @@
 --     shownFault k f     the number and place for the fault f of record k
 --     lineOf k r         the line for record k, whose bytes are r
 --     listing bytes      the whole output
+--     shownReading       the number and place for a reading
+--     recordLines        the lines of the display's table for one record, and `RecordShows` what they say
 -- Bytes are ASCII. Assumes nothing.
-use Prim.Native.Nat.{ℕ, zero, suc, _+_, _/_, _%_}
-use mathlib.Core.Bool.{cond}
+use Prim.Native.Nat.{ℕ, zero, suc, _+_, _*_, _/_, _%_, _<_}
+use mathlib.Core.Path.{_≡_}
+use mathlib.Core.Bool.{false, cond}
+use mathlib.Core.Logic.{_⊎_}
 use mathlib.Core.List.{List, [], _∷_, _++_}
 use lib.Dec.{eqb, ltb}
 use lib.ListN.{length, drop}
-use Rattle.maps.specs.Verdict.{Verdict, refused}
+use Rattle.maps.specs.Given.{mapOf}
+use Rattle.maps.specs.Verdict.{Verdict, accepted, refused}
+use Rattle.maps.specs.Lines.{Line, Shows, plain, mapLines}
 use Rattle.words.specs.Words.{start, symmetries}
-use Rattle.drawer.specs.Record.{Filed, Fault, wrong-dimension, wrong-size, no-die, zero-byte, filling, no-map, other-word, Reading, good, bad, recordSize, filedIn, layoutMap, readTable}
+use Rattle.drawer.specs.Record.{Filed, Fault, wrong-dimension, wrong-size, no-die, zero-byte, filling, no-map, other-word, Reading, good, bad, recordSize, filedIn, zeroByteIn, fillingIn, allZero, readTable}
 use Rattle.drawer.specs.Drawer.{recordAt}
 
 -- the last `most` digits of x, without zeros in front
@@ -50,11 +56,16 @@ shownFault k filling = refused 14 k
 shownFault k (no-map v) = v
 shownFault k other-word = refused 14 k
 
+-- the number and place that the display would show of a reading
+unfoldable pub shownReading : ℕ → Reading → Verdict
+shownReading k (good f) = accepted
+shownReading k (bad f) = shownFault k f
+
 -- "die, n, m, symmetries, start dart"; "A refused record prints: die, `refused`, number, place"
 unfoldable pub lineFor : ℕ → ℕ → Reading → List ℕ
 lineFor k die (good f) =
     let l = f .layout in
-    let M = layoutMap l in
+    let M = mapOf l in
     spaced (decimal die ∷ decimal (l .n) ∷ decimal (l .m) ∷ decimal (symmetries M) ∷ decimal (start M) ∷ [])
 lineFor k die (bad f) =
     let v = shownFault k f in
@@ -74,3 +85,18 @@ shortEnd k = cond (eqb k 0) [] (spaced (shortWord ∷ decimal k ∷ []))
 
 unfoldable pub listing : List ℕ → List ℕ
 listing bytes = linesTo (length bytes / recordSize) bytes ++ shortEnd (length bytes % recordSize)
+
+-- the lines of the display's table that a record can show, in their order: 1, 2, then 14 at its own number, then 5 to 9
+unfoldable pub recordLines : ℕ → List ℕ → List Line
+recordLines k r =
+    let f = filedIn r in
+    let l = f .layout in
+    plain 1 ((l .n ≡ 0) ⊎ (4 < l .n))
+    ∷ plain 2 ((l .m ≡ 0) ⊎ (1020 < l .n * l .m))
+    -- "14 (die 0, zero byte or filling wrong; place is the record, from 1)"
+    ∷ record { number = 14; Holds = λ p. (p ≡ k) × ((f .die ≡ 0) ⊎ (¬ (zeroByteIn r ≡ 0)) ⊎ (allZero (fillingIn r) ≡ false)) }
+    ∷ mapLines (mapOf l)
+
+-- a refused record's number and place are what its lines show
+unfoldable pub RecordShows : Type 1
+RecordShows = (k : ℕ) (r : List ℕ) → Shows (recordLines k r) (shownReading k (readTable r))

@@ -1,13 +1,15 @@
 -- The laws of `specs/Least.antt`: places, the first numbers, and the least number that passes a test.
 --     nth-suc, nth-past           what stands at a place, and past the end
---     nth-append-left             a place of the first of two lists
+--     nth-append                  a place of the first of two lists
 --     length-upTo, nth-map-upTo   a list made by a function of the numbers 1 to k
---     least-stays, least-hit      the least up to k, at one number more
---     least-le, least-passes      it is one of the numbers, and passes
+--     Tested, tested              whether a test passes, as a sum to take apart
+--     least-kept, least-hit       the least up to k, at one number more
+--     least-le, least-found       it is one of the numbers, and passes
 --     least-none, none-least      it is 0 exactly when none passes
 --     least-is                    the one that passes while no lower one does
 --     least-cong                  tests that agree have the same least
 --     passed-..                   a search that goes from 1 upwards
+--     count-le, count-passed      how many pass: at most k, and at least 1 where one is known to pass
 -- Assumes nothing.
 use Prim.Native.Nat.{ℕ, zero, suc, _+_, _≤_, _<_}
 use mathlib.Core.Path.{_≡_, refl, sym, ap, _∙_}
@@ -258,3 +260,21 @@ nth-map-upTo f (suc k) j low high =
 
 pub nth-upTo : (k j : ℕ) → 1 ≤ j → j ≤ k → nth (upTo k) j ≡ j
 nth-upTo k j low high = rw (← map-id (upTo k)) (nth-map-upTo (λ i. i) k j low high)
+
+one-or-none : (b : Bool) → cond b 1 0 ≤ 1
+one-or-none true = omega arith
+one-or-none false = omega arith
+
+pub count-le : (k : ℕ) (p : ℕ → Bool) → count k p ≤ k
+unfolding count
+count-le zero p = omega arith
+count-le (suc k) p = omega (arith, count-le k p, one-or-none (p (suc k)))
+
+pub count-passed : (k : ℕ) (p : ℕ → Bool) (d : ℕ) → 1 ≤ d → d ≤ k → p d ≡ true → 1 ≤ count k p
+unfolding count
+count-passed zero p d low high hit = absurd (omega arith)
+count-passed (suc k) p d low high hit =
+    ⊎-elim
+    (λ h. let before = count-passed k p d low h hit in omega arith)
+    (λ e. rw (← e, hit) (omega arith))
+    (le-suc-iff .0 high)

@@ -1,15 +1,12 @@
--- The laws of `specs/`, for this crate's proofs and those of the crates that link it. Read in this order.
+-- The laws of `specs/`, a file for each of its files, for this crate's proofs and those of the crates that link it.
 pub mod Opened
 pub mod Least
-pub mod Count
-pub mod Verdict
 pub mod Map
-pub mod Paths
+pub mod Accepted
 pub mod Matching
-pub mod Table
+pub mod Theorems
+pub mod Given
+pub mod Verdict
 pub mod Rules
-pub mod Entries
 pub mod Lines
-pub mod Judging
-pub mod Backs
-pub mod Answers
+pub mod Answer

@@ -2,18 +2,19 @@
 --     sew-zero, sew-outside, sew-high     nothing is sewn to 0, to what is no dart, or by a sewing above n
 --     sew-beta, sew-back                  inside, `sew` is what is written, and β0 is `back`
 --     sewn-dart                           what is sewn is a dart
+--     back-dart                           β0 leads to a dart or to nothing
 --     back-forth, forth-back              β1 after β0, and β0 after β1
 -- Assumes nothing.
 use Prim.Native.Nat.{ℕ, zero, suc, _+_, _≤_, _<_}
 use mathlib.Core.Path.{_≡_, refl, sym, ap, _∙_}
 use mathlib.Core.Bool.{Bool, true, false, cond, _&&_}
 use native.Mathlib.Omega.{arith}
-use borrow.Author.Tests.{lt-ltb, le-leb, lt-leb, le-ltb, leb-true, leb-false, eq-eqb, ne-eqb, eqb-true, eqb-false}
+use borrow.Author.Tests.{lt-ltb, le-leb, lt-leb, le-ltb, leb-true, leb-false, eq-eqb, ne-eqb, eqb-true, eqb-false, ltb-true, ltb-false}
 use lib.Dec.{leb, eqb, ltb}
 use Rattle.maps.specs.Least.{least}
 use Rattle.maps.specs.Map.{Map, IsDart, isDart, back, sew}
 use Rattle.maps.specs.Accepted.{OpenMap}
-use Rattle.maps.proofs.Least.{Tested, passes, fails, tested, Found, least-found, least-is, least-none, true-not-false}
+use Rattle.maps.proofs.Least.{Tested, passes, fails, tested, Found, least-found, least-is, least-none, least-le, true-not-false}
 
 module _ (M : Map) (i d : ℕ) where
   pub sew-zero : sew M i 0 ≡ 0
@@ -63,6 +64,15 @@ module _ (M : Map) (i d : ℕ) where
 pub sew-back : (M : Map) (d : ℕ) → IsDart M d → sew M 0 d ≡ back M d
 unfolding sew isDart
 sew-back M d h = simp (le-leb 1 d (h .0), le-leb d (M .darts) (h .1), le-leb 0 (M .dim) (omega arith))
+
+-- β0 leads to a dart or to nothing
+pub back-dart : (M : Map) (d : ℕ) → sew M 0 d ≤ M .darts
+unfolding back
+back-dart M d = at (tested (ltb 0 (sew M 0 d)))
+  where
+    at : Tested (ltb 0 (sew M 0 d)) → sew M 0 d ≤ M .darts
+    at (fails e) = omega (arith, ltb-false 0 (sew M 0 d) e)
+    at (passes e) = rw (sew-back M d (sewn-dart M 0 d (ltb-true 0 (sew M 0 d) e))) (least-le (λ e. eqb (M .beta 1 e) d) (M .darts))
 
 -- the test of `back`: β1 takes e to d, as written
 unfoldable pub takes : Map → ℕ → ℕ → Bool

@@ -25,7 +25,7 @@ use Rattle.maps.specs.Accepted.{InBounds, OpenMap, Path, here, on, Conne
 use Rattle.maps.specs.Matching.{Matching}
 use Rattle.maps.proofs.Least.{nth-suc, nth-zero, nth-past, nth-map-upTo, nth-upTo, length-upTo}
 use Rattle.maps.proofs.Least.{Tested, passes, fails, tested, least-is, none-least, least-le}
-use Rattle.maps.proofs.Paths.{all-reached}
+use Rattle.maps.proofs.Accepted.{all-reached}
 use Rattle.maps.proofs.Map.{sew-zero, sew-outside, sew-high, sew-back, sewn-dart, back-forth, forth-back}
 
 -- where a number stands: it is 0, a dart, or past the darts
@@ -198,7 +198,7 @@ module _ {M M′ : Map} {f : List ℕ} (m : Matching M M′ f) (o : OpenMap M) (
       on i (path-carried p) (sym (kept-all i d) ∙ ap (nth f) is) (m .to-darts e (pos, rw is at (o .to-darts i d)) .0)
 
 module _ {M M′ : Map} {f : List ℕ} (m : Matching M M′ f) (a : Accepted M) where
-  bounds-carried : InBounds M′
+  bounds-carried : InBounds (M′ .dim) (M′ .darts)
   bounds-carried =
       record {
         dim-least = rw (m .same-dim) at (a .bounds .dim-least);

@@ -1,9 +1,13 @@
--- The rules of one map, in the order of their numbers (01, "Numbers the display can show", 1 to 8).
+-- The rules of one map, in the order of their numbers (01, "Numbers the display can show", 1 to 8), as tests that compute.
+--     judgeShape      1, 2 and 3
+--     judgeOutput     4, of the output that a call is lent
 --     Rule            a number, and which entries of the table break it
---     rules           5, 6, 7 and 8
+--     rules           5, 6, 7 and 8: `overRule`, `clashRule`, `reverseRule`, `composeRule`
 --     wrongEntry      the place in the table of the least entry that breaks a rule, or 0
 --     shownPlace      what the display shows of a wrong entry: its dart
 --     judgedBy        a rule's verdict on a map
+--     judgeEntries    5 to 8
+--     judgeSewing     1 to 8
 -- An entry is βi(d): d is its dart, i its sewing. Rule 9 is `labels`'. Assumes nothing.
 use Prim.Native.Nat.{ℕ, _+_, _-_, _*_, _/_, _%_}
 use mathlib.Core.Bool.{Bool, not, cond, _&&_}
@@ -12,23 +16,31 @@ use lib.Dec.{eqb, leb, ltb}
 use lib.ListN.{length}
 use Rattle.maps.specs.Least.{least, some}
 use Rattle.maps.specs.Map.{Map, sew}
-use Rattle.maps.specs.Verdict.{Verdict, accepted, unless, refused}
+use Rattle.maps.specs.Given.{Given, mapOf}
+use Rattle.maps.specs.Verdict.{Verdict, accepted, unless, refused, inOrder}
+use Rattle.maps.specs.declared.Output.{Output}
+use Rattle.maps.specs.declared.Output.the-variants.{Nothing, Word, Images}
 
 -- 1: "n outside 1..4"
-unfoldable pub judgeDimension : ℕ → Verdict
-judgeDimension n = unless (leb 1 n && leb n 4) 1 0
+unfoldable pub judgeDimension : Given → Verdict
+judgeDimension g = unless (leb 1 (g .n) && leb (g .n) 4) 1 0
 
 -- 2: "m = 0 or n·m > 1,020"
-unfoldable pub judgeSize : ℕ → ℕ → Verdict
-judgeSize n m = unless (leb 1 m && leb (n * m) 1020) 2 0
+unfoldable pub judgeSize : Given → Verdict
+judgeSize g = unless (leb 1 (g .m) && leb (g .n * g .m) 1020) 2 0
 
 -- 3: "table length is not n·m"
-unfoldable pub judgeLength : ℕ → ℕ → List ℕ → Verdict
-judgeLength n m t = unless (eqb (length t) (n * m)) 3 0
+unfoldable pub judgeLength : Given → Verdict
+judgeLength g = unless (eqb (length (g .table)) (g .n * g .m)) 3 0
 
--- 4: "output shorter than" what is written
-unfoldable pub judgeRoom : ℕ → ℕ → Verdict
-judgeRoom needed room = unless (leb needed room) 4 0
+unfoldable pub judgeShape : Given → Verdict
+judgeShape g = inOrder (judgeDimension g ∷ judgeSize g ∷ judgeLength g ∷ [])
+
+-- 4: "output shorter than n·m (signature) or m (match)"; a call that is lent none never gives it
+unfoldable pub judgeOutput : Output → ℕ → ℕ → Verdict
+judgeOutput Nothing n m = accepted
+judgeOutput (Word room) n m = unless (leb (n * m) room) 4 0
+judgeOutput (Images room) n m = unless (leb m room) 4 0
 
 -- a rule is judged by the entry that breaks it
 pub record Rule : Type 0 where
@@ -57,14 +69,21 @@ parted M i j d =
 unfoldable pub composesWrong : Map → ℕ → ℕ → Bool
 composesWrong M d j = some (j - 2) (λ i. parted M i j d)
 
+abbrev pub overRule : Rule
+overRule = record { number = 5; broken = exceeds }
+
+abbrev pub clashRule : Rule
+clashRule = record { number = 6; broken = givenBefore }
+
+abbrev pub reverseRule : Rule
+reverseRule = record { number = 7; broken = unanswered }
+
+abbrev pub composeRule : Rule
+composeRule = record { number = 8; broken = composesWrong }
+
 -- the rules of the table's entries, in the order of their numbers
 unfoldable pub rules : List Rule
-rules =
-    record { number = 5; broken = exceeds }
-    ∷ record { number = 6; broken = givenBefore }
-    ∷ record { number = 7; broken = unanswered }
-    ∷ record { number = 8; broken = composesWrong }
-    ∷ []
+rules = overRule ∷ clashRule ∷ reverseRule ∷ composeRule ∷ []
 
 -- the dart and the sewing of the entry at place p, counted from 1, in a table of dimension n: `placeOf` turned round
 unfoldable pub dartAt : ℕ → ℕ → ℕ
@@ -86,6 +105,9 @@ judgedBy M r =
     let p = wrongEntry M r in
     unless (eqb p 0) (r .number) (shownPlace M p)
 
--- 5 to 8, in order
-unfoldable pub judgeEntries : Map → List Verdict
-judgeEntries M = map (judgedBy M) rules
+unfoldable pub judgeEntries : Map → Verdict
+judgeEntries M = inOrder (map (judgedBy M) rules)
+
+-- 01: "Within one map the lower number comes first"
+unfoldable pub judgeSewing : Output → Given → Verdict
+judgeSewing o g = inOrder (judgeShape g ∷ judgeOutput o (g .n) (g .m) ∷ judgeEntries (mapOf g) ∷ [])

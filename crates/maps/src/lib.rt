@@ -2,10 +2,12 @@
 ghost use mathlib.Core.Path.{_≡_};
 ghost use Prim.Native.Nat.{_≤_};
 ghost use lib.ListN.{replicate};
-ghost use Rattle.maps.specs.Map.{sew, tableMap};
-ghost use Rattle.maps.specs.Verdict.{accepts, inOrder};
-ghost use Rattle.maps.specs.Rules.{unanswered, parted, composesWrong, dartAt, wrongEntry, judgeEntries};
-ghost use Rattle.maps.specs.Judged.{Shaped, Within, BackAs, JudgedAs, judgeOutput, judgeSewing, ruleOf};
+ghost use Rattle.maps.specs.Map.{sew};
+ghost use Rattle.maps.specs.Given.{lent, mapOf, Shaped};
+ghost use Rattle.maps.specs.Verdict.{accepts};
+ghost use Rattle.maps.specs.Rules.{unanswered, parted, composesWrong, dartAt, wrongEntry, judgeOutput, judgeEntries, judgeSewing};
+ghost use Rattle.maps.specs.Answer.{JudgedAs};
+ghost use Rattle.maps.specs.Inside.{InTable, Blank, BackAs, ruleOf};
 
 // A verdict: passed, or refused with document 01's number and place.
 pub enum Judged {
@@ -18,12 +20,6 @@ pub enum Output {
     Nothing,
     Word(usize),
     Images(usize),
-}
-
-// A table judged, and β0 of each dart where it passed: back[d - 1] is the dart that β1 takes to d, or 0.
-pub struct Sewings {
-    pub judged: Judged,
-    pub back: [u16; 1020],
 }
 
 // The rules that are judged entry by entry: 5, 7 and 8.
@@ -41,8 +37,8 @@ fn wide(x: u16) -> usize
 
 // βi(d) for i from 1. Nothing is sewn to what is no dart.
 fn sewn(n: usize, m: usize, table: &[u16], i: usize, d: usize) -> usize
-    requires { ⌜ Shaped n m (now table) × (1 ≤ i) × (i ≤ n) ⌝ }
-    ensures { λ r. ⌜ r ≡ sew (tableMap n m (now (table .entry))) i d ⌝ }
+    requires { ⌜ InTable (lent n m (now table)) i ⌝ }
+    ensures { λ r. ⌜ r ≡ sew (mapOf (lent n m (now (table .entry)))) i d ⌝ }
 {
     if d == 0 {
         return 0;
@@ -55,8 +51,8 @@ fn sewn(n: usize, m: usize, table: &[u16], i: usize, d: usize) -> usize
 
 // Rule 7 at one entry: βi(d) is sewn, and βi does not lead back.
 fn not_answered(n: usize, m: usize, table: &[u16], d: usize, i: usize) -> bool
-    requires { ⌜ Shaped n m (now table) × (1 ≤ i) × (i ≤ n) ⌝ }
-    ensures { λ r. ⌜ r ≡ unanswered (tableMap n m (now (table .entry))) d i ⌝ }
+    requires { ⌜ InTable (lent n m (now table)) i ⌝ }
+    ensures { λ r. ⌜ r ≡ unanswered (mapOf (lent n m (now (table .entry)))) d i ⌝ }
 {
     if i < 2 {
         return false;
@@ -70,8 +66,8 @@ fn not_answered(n: usize, m: usize, table: &[u16], d: usize, i: usize) -> bool
 
 // The composition of βi and βj, twice, leads from d elsewhere.
 fn parts(n: usize, m: usize, table: &[u16], i: usize, j: usize, d: usize) -> bool
-    requires { ⌜ Shaped n m (now table) × (1 ≤ i) × (i ≤ n) × (1 ≤ j) × (j ≤ n) ⌝ }
-    ensures { λ r. ⌜ r ≡ parted (tableMap n m (now (table .entry))) i j d ⌝ }
+    requires { ⌜ InTable (lent n m (now table)) i × InTable (lent n m (now table)) j ⌝ }
+    ensures { λ r. ⌜ r ≡ parted (mapOf (lent n m (now (table .entry)))) i j d ⌝ }
 {
     let e = sewn(n, m, table, i, sewn(n, m, table, j, d));
     if e == 0 {
@@ -82,8 +78,8 @@ fn parts(n: usize, m: usize, table: &[u16], i: usize, j: usize, d: usize) -> boo
 
 // Rule 8 at one entry: a composition with βj fails at d.
 fn not_composed(n: usize, m: usize, table: &[u16], d: usize, j: usize) -> bool
-    requires { ⌜ Shaped n m (now table) × (1 ≤ j) × (j ≤ n) ⌝ }
-    ensures { λ r. ⌜ r ≡ composesWrong (tableMap n m (now (table .entry))) d j ⌝ }
+    requires { ⌜ InTable (lent n m (now table)) j ⌝ }
+    ensures { λ r. ⌜ r ≡ composesWrong (mapOf (lent n m (now (table .entry)))) d j ⌝ }
 {
     let mut i = 1;
     while i + 2 <= j {
@@ -97,8 +93,8 @@ fn not_composed(n: usize, m: usize, table: &[u16], d: usize, j: usize) -> bool
 
 // One rule at one entry.
 fn breaks(law: Law, n: usize, m: usize, table: &[u16], d: usize, i: usize) -> bool
-    requires { ⌜ Shaped n m (now table) × (1 ≤ i) × (i ≤ n) ⌝ }
-    ensures { λ r. ⌜ r ≡ ruleOf law .broken (tableMap n m (now (table .entry))) d i ⌝ }
+    requires { ⌜ InTable (lent n m (now table)) i ⌝ }
+    ensures { λ r. ⌜ r ≡ ruleOf law .broken (mapOf (lent n m (now (table .entry)))) d i ⌝ }
 {
     match law {
         Law::Bounded => m < sewn(n, m, table, i, d),
@@ -109,8 +105,8 @@ fn breaks(law: Law, n: usize, m: usize, table: &[u16], d: usize, i: usize) -> bo
 
 // The place of the least entry that breaks a rule, or 0.
 fn wrong_entry(law: Law, n: usize, m: usize, table: &[u16]) -> usize
-    requires { ⌜ Shaped n m (now table) ⌝ }
-    ensures { λ r. ⌜ r ≡ wrongEntry (tableMap n m (now (table .entry))) (ruleOf law) ⌝ }
+    requires { ⌜ Shaped (lent n m (now table)) ⌝ }
+    ensures { λ r. ⌜ r ≡ wrongEntry (mapOf (lent n m (now (table .entry)))) (ruleOf law) ⌝ }
 {
     let mut p = 1;
     let mut d = 1;
@@ -132,8 +128,8 @@ fn wrong_entry(law: Law, n: usize, m: usize, table: &[u16]) -> usize
 
 // Finds β0 of each dart, and with it the least entry that breaks rule 6, or 0: a dart that β1 gave before has its β0 already.
 fn sew_back(n: usize, m: usize, table: &[u16], back: &mut [u16; 1020]) -> usize
-    requires { ⌜ Shaped n m (now table) × Within n m (now table) × (now back ≡ replicate 1020 0) ⌝ }
-    ensures { λ r. ⌜ BackAs (tableMap n m (now (table .entry))) r (now (back .exit)) ⌝ }
+    requires { ⌜ Blank (lent n m (now table)) (now back) ⌝ }
+    ensures { λ r. ⌜ BackAs (mapOf (lent n m (now (table .entry)))) r (now (back .exit)) ⌝ }
 {
     let mut d = 1;
     while d <= m {
@@ -157,47 +153,43 @@ fn shown(n: usize, p: usize) -> usize
     (p - 1) / n + 1
 }
 
-fn refused(number: u32, place: usize) -> Sewings
-    ensures { λ r. ⌜ (r .judged ≡ Judged.Refused number place) × (r .back ≡ replicate 1020 0) ⌝ }
+// A refusal leaves zeros in the array of β0.
+fn refuse(number: u32, place: usize, back: &mut [u16; 1020]) -> Judged
+    ensures { λ r. ⌜ (r ≡ Judged.Refused number place) × (now (back .exit) ≡ replicate 1020 0) ⌝ }
 {
-    Sewings {
-        judged: Judged::Refused { number, place },
-        back: [0; 1020],
-    }
+    *back = [0; 1020];
+    Judged::Refused { number, place }
 }
 
 // Rules 5 to 8 of a table that has passed 1 to 4.
-fn judge_entries(n: usize, m: usize, table: &[u16]) -> Sewings
-    requires { ⌜ Shaped n m (now table) ⌝ }
-    ensures { λ r. ⌜ JudgedAs (tableMap n m (now (table .entry))) (inOrder (judgeEntries (tableMap n m (now (table .entry))))) r ⌝ }
+fn judge_entries(n: usize, m: usize, table: &[u16], back: &mut [u16; 1020]) -> Judged
+    requires { ⌜ Shaped (lent n m (now table)) ⌝ }
+    ensures { λ r. ⌜ JudgedAs (λ g. judgeEntries (mapOf g)) (lent n m (now (table .entry))) r (now (back .exit)) ⌝ }
 {
     let over = wrong_entry(Law::Bounded, n, m, table);
     if over != 0 {
-        return refused(5, shown(n, over));
+        return refuse(5, shown(n, over), back);
     }
-    let mut back = [0u16; 1020];
-    let given = sew_back(n, m, table, &mut back);
+    *back = [0; 1020];
+    let given = sew_back(n, m, table, back);
     if given != 0 {
-        return refused(6, shown(n, given));
+        return refuse(6, shown(n, given), back);
     }
     let parted = wrong_entry(Law::Reversed, n, m, table);
     if parted != 0 {
-        return refused(7, shown(n, parted));
+        return refuse(7, shown(n, parted), back);
     }
     let twisted = wrong_entry(Law::Composed, n, m, table);
     if twisted != 0 {
-        return refused(8, shown(n, twisted));
+        return refuse(8, shown(n, twisted), back);
     }
-    Sewings {
-        judged: Judged::Passed,
-        back,
-    }
+    Judged::Passed
 }
 
 // The output is long enough for what the call writes.
 fn has_room(output: Output, n: usize, m: usize) -> bool
     requires { ⌜ (n ≤ 4) × (m ≤ 1020) ⌝ }
-    ensures { λ r. ⌜ r ≡ accepts (inOrder (judgeOutput output n m)) ⌝ }
+    ensures { λ r. ⌜ r ≡ accepts (judgeOutput output n m) ⌝ }
 {
     match output {
         Output::Nothing => true,
@@ -206,30 +198,31 @@ fn has_room(output: Output, n: usize, m: usize) -> bool
     }
 }
 
-// Rules 1 to 8, in order, for whatever a caller hands in.
-pub fn judge(n: usize, m: usize, table: &[u16], output: Output) -> Sewings
-    ensures { λ r. ⌜ JudgedAs (tableMap n m (now (table .entry))) (judgeSewing n m (now (table .entry)) output) r ⌝ }
+// Rules 1 to 8, in order, for whatever a caller hands in. The lent array then holds β0 of each dart, at index d - 1, where the
+// table passed, and zeros where it is refused.
+pub fn judge(n: usize, m: usize, table: &[u16], output: Output, back: &mut [u16; 1020]) -> Judged
+    ensures { λ r. ⌜ JudgedAs (judgeSewing output) (lent n m (now (table .entry))) r (now (back .exit)) ⌝ }
 {
     if n < 1 {
-        return refused(1, 0);
+        return refuse(1, 0, back);
     }
     if 4 < n {
-        return refused(1, 0);
+        return refuse(1, 0, back);
     }
     if m < 1 {
-        return refused(2, 0);
+        return refuse(2, 0, back);
     }
     if 1020 < m {
-        return refused(2, 0);
+        return refuse(2, 0, back);
     }
     if 1020 < n * m {
-        return refused(2, 0);
+        return refuse(2, 0, back);
     }
     if table.len() != n * m {
-        return refused(3, 0);
+        return refuse(3, 0, back);
     }
     if has_room(output, n, m) {
-        return judge_entries(n, m, table);
+        return judge_entries(n, m, table, back);
     }
-    refused(4, 0)
+    refuse(4, 0, back)
 }

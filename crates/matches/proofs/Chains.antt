@@ -17,12 +17,13 @@ use borrow.Author.Tests.{le-ltb, ne-eqb, eqb-true, eqb-false}
 use lib.Dec.{eqb}
 use lib.ListN.{length, length-append}
 use Rattle.maps.specs.Least.{nth, upTo}
-use Rattle.maps.specs.Map.{Map, IsDart, isDart, back, sew, placeOf}
+use Rattle.maps.specs.Map.{Map, IsDart, isDart, back, sew}
+use Rattle.maps.specs.Given.{placeOf}
 use Rattle.maps.specs.Accepted.{OpenMap, Path, here, on, Connected, Accepted}
 use Rattle.maps.proofs.Least.{Tested, passes, fails, tested, true-not-false, least-le, map-append, nth-upTo, length-upTo}
 use Rattle.maps.proofs.Map.{sew-zero, sew-outside, sew-high, sew-beta, sew-back, sewn-dart, sewn-low, forth-back}
 use Rattle.maps.proofs.Matching.{Stands, nothing, dart, past, stands}
-use Rattle.labels.specs.Labelling.{labelIn, visit, serve, served, labelling}
+use Rattle.labels.specs.Queue.{labelIn, visit, serve, served, labelling}
 use Rattle.labels.proofs.Queue.{none-labelIn, nth-labelIn, nth-labelled, labelIn-le, Grown, visit-nothing, visit-old, visit-new, served-zero, served-suc, labelling-first, labelling-grown, labelling-short, labelling-queue, queue-zero, tried-zero, tried-suc, serve-tried}
 use Rattle.labels.proofs.Reached.{labelling-numbers}
 use Rattle.words.specs.Words.{row, wordOf, word, less, signature}

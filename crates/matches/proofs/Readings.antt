@@ -21,36 +21,33 @@ use native.Mathlib.Omega.{arith}
 use lib.Dec.{eqb, ltb}
 use lib.ListN.{length}
 use Rattle.maps.specs.Least.{nth, upTo, some}
-use Rattle.maps.specs.Map.{Map, IsDart, sew, tableMap}
+use Rattle.maps.specs.Map.{Map, IsDart, sew}
 use Rattle.maps.specs.Accepted.{OpenMap, Accepted}
 use Rattle.maps.specs.Matching.{Matching, Matched}
+use Rattle.maps.specs.Given.{Given, lent, mapOf}
 use Rattle.maps.specs.Verdict.{accepted, refused}
 use Rattle.maps.specs.Rules.{givenBefore}
-use Rattle.maps.proofs.Least.{Tested, passes, fails, tested, nth-zero, true-not-false}
+use Rattle.maps.proofs.Least.{Tested, passes, fails, tested, nth-zero, map-append, true-not-false}
 use Rattle.maps.proofs.Map.{sew-zero, sew-beta, sew-high}
 use Rattle.maps.proofs.Matching.{image-zero}
-use Rattle.labels.specs.Labelling.{labelIn, visits, labelling}
-use Rattle.labels.specs.Arrays.{rowMet}
-use Rattle.labels.proofs.Queue.{visit-nothing}
-use Rattle.labels.proofs.Arrays.{rowMet-zero, rowMet-suc}
+use Rattle.labels.specs.Queue.{labelIn, visit, visits, labelling}
+use Rattle.labels.specs.Judging.{checkAnswer}
+use Rattle.labels.specs.Theorems.{CheckAccepts}
+use Rattle.labels.proofs.Queue.{visit-nothing, visits-append}
 use Rattle.labels.proofs.Reached.{labelling-numbers}
-use Rattle.labels.proofs.Judging.{check-accepts}
+use Rattle.labels.proofs.Theorems.{check-accepts}
 use Rattle.words.specs.Words.{word, signature}
 use Rattle.words.proofs.Opened.{opened}
-use Rattle.words.proofs.Theorems.{signature-complete}
-use Rattle.matches.specs.Match.{imageOfFirst, judgeSizes, judgeMatching, matchAnswer}
+use Rattle.words.proofs.Meaning.{signature-complete}
+use Rattle.words.specs.Match.{imageOfFirst, judgePair, judgeMatching, matchAnswer}
 use Rattle.matches.specs.Judge.{badImage, parts, judgeAnswer}
-use Rattle.matches.specs.Bench.{Table, table, caseC, caseD, checked, matched}
+use Rattle.matches.specs.Bench.{caseC, caseD, matched}
 use Rattle.matches.proofs.Chains.{labelIn-upTo, chain, chain-unlooped, Last, chain-last, chain-accepted, chain-labelling, chain-read}
 
--- the map that a table writes down
-unfoldable pub mapOf : Table → Map
-mapOf t = tableMap (t .n) (t .m) (t .entries)
-
 -- a table that the plain check passes is that of an accepted map
-pub checked-accepted : (t : Table) → checked t ≡ accepted → Accepted (mapOf t)
-unfolding mapOf checked
-checked-accepted t passed = check-accepts (t .n) (t .m) (t .entries) .0 passed .1
+pub checked-accepted : (g : Given) → checkAnswer g ≡ accepted → Accepted (mapOf g)
+unfolding CheckAccepts
+checked-accepted g passed = check-accepts g .0 passed .1
 
 -- an edge is unsewn exactly when a matching takes it to an unsewn one (the last reading, and the third)
 pub matching-unsewn : {M M′ : Map} {f : List ℕ} → OpenMap M → Matching M M′ f →
@@ -62,19 +59,19 @@ matching-unsewn {M} {M′} {f} o m i d low h =
 -- 01: "Comparing words without n: C and D share 0,1."
 
 pub C-accepted : Accepted (mapOf caseC)
-unfolding opened checked table caseC
+unfolding opened caseC
 C-accepted = checked-accepted caseC refl
 
 pub D-accepted : Accepted (mapOf caseD)
-unfolding opened checked table caseD
+unfolding opened caseD
 D-accepted = checked-accepted caseD refl
 
 pub C-signature : signature (mapOf caseC) ≡ 0 ∷ 1 ∷ []
-unfolding opened mapOf table caseC
+unfolding opened caseC
 C-signature = refl
 
 pub D-signature : signature (mapOf caseD) ≡ 0 ∷ 1 ∷ []
-unfolding opened mapOf table caseD
+unfolding opened caseD
 D-signature = refl
 
 -- maps of two dimensions have no matching
@@ -83,11 +80,11 @@ unfolding Matched
 without-dim-unmatched M M′ apart m = apart (m .1 .same-dim)
 
 pub C-D-unmatched : ¬ Matched (mapOf caseC) (mapOf caseD)
-unfolding opened mapOf table caseC caseD
+unfolding opened caseC caseD
 C-D-unmatched = without-dim-unmatched (mapOf caseC) (mapOf caseD) (λ e. omega arith)
 
 pub C-D-answer : matched caseC caseD ≡ refused 10 0
-unfolding opened matched table caseC caseD imageOfFirst judgeSizes judgeMatching matchAnswer
+unfolding opened matched caseC caseD matchAnswer
 C-D-answer = refl
 
 pub without-dim-wrong : ¬ ((M M′ : Map) → Accepted M → Accepted M′ → signature M ≡ signature M′ → Matched M M′)
@@ -108,14 +105,18 @@ wrongServed M d (suc k) =
 unfoldable pub wrongLabelling : Map → ℕ → List ℕ
 wrongLabelling M d = wrongServed M d (M .darts)
 
-rowMet-nothing : (M : Map) (q : List ℕ) (d : ℕ) → Last M d → (k : ℕ) → rowMet M q d k ≡ q
-rowMet-nothing M q d none zero = rowMet-zero M q d
-rowMet-nothing M q d none (suc k) =
-    rowMet-suc M q d k ∙ visit-nothing (rowMet M q d k) (sew M (suc k) d) (none (suc k) (omega arith)) ∙ rowMet-nothing M q d none k
+visits-nothing : (M : Map) (q : List ℕ) (d : ℕ) → Last M d → (k : ℕ) → visits q (map (λ i. sew M i d) (upTo k)) ≡ q
+unfolding visits upTo
+visits-nothing M q d none zero = refl
+visits-nothing M q d none (suc k) =
+    rw (map-append (λ i. sew M i d) (upTo k) (suc k ∷ []))
+    (visits-append q (map (λ i. sew M i d) (upTo k)) (sew M (suc k) d ∷ [])
+    ∙ visit-nothing _ (sew M (suc k) d) (none (suc k) (omega arith))
+    ∙ visits-nothing M q d none k)
 
 wrongServe-nothing : (M : Map) (q : List ℕ) (d : ℕ) → Last M d → wrongServe M q d ≡ q
-unfolding wrongServe rowMet
-wrongServe-nothing M q d none = rowMet-nothing M q d none (M .dim)
+unfolding wrongServe
+wrongServe-nothing M q d none = visits-nothing M q d none (M .dim)
 
 module _ (M : Map) (d : ℕ) (none : Last M d) where
   -- the start is served, and then nothing
@@ -139,11 +140,11 @@ pub without-back-chain : (m : ℕ) → 1 ≤ m → (wrongLabelling (chain m fals
 without-back-chain m least = (without-back-nothing (chain m false) 1 (chain-last m least), chain-labelling m false least)
 
 pub without-back-C : (wrongLabelling (mapOf caseC) 2 ≡ 2 ∷ []) × (labelling (mapOf caseC) 2 ≡ 2 ∷ 1 ∷ [])
-unfolding opened mapOf table caseC wrongServe wrongServed wrongLabelling
+unfolding opened caseC wrongServe wrongServed wrongLabelling
 without-back-C = (refl, refl)
 
 pub without-back-wrong : ¬ ((M : Map) (d : ℕ) → Accepted M → IsDart M d → length (wrongLabelling M d) ≡ M .darts)
-unfolding opened mapOf table caseC wrongServe wrongServed wrongLabelling
+unfolding opened caseC wrongServe wrongServed wrongLabelling
 without-back-wrong reading = let one-two : _≡_ {A = ℕ} 1 2 = reading (mapOf caseC) 2 C-accepted (omega arith) in omega arith
 
 -- ours labels every dart of an accepted map
@@ -187,23 +188,23 @@ in-bytes-wrong reading =
 -- 01: "Starting only from dart 1: the word then depends on how the die was numbered."
 
 -- C with its two darts numbered the other way round
-unfoldable pub turnedC : Table
-turnedC = table 1 2 (0 ∷ 1 ∷ [])
+unfoldable pub turnedC : Given
+turnedC = lent 1 2 (0 ∷ 1 ∷ [])
 
 pub turnedC-accepted : Accepted (mapOf turnedC)
-unfolding opened checked table turnedC
+unfolding opened turnedC
 turnedC-accepted = checked-accepted turnedC refl
 
 pub first-dart-words : (word (mapOf caseC) 1 ≡ 2 ∷ 0 ∷ []) × (word (mapOf turnedC) 1 ≡ 0 ∷ 1 ∷ [])
-unfolding opened mapOf table caseC turnedC
+unfolding opened caseC turnedC
 first-dart-words = (refl, refl)
 
 pub first-dart-signature : signature (mapOf caseC) ≡ signature (mapOf turnedC)
-unfolding opened mapOf table caseC turnedC
+unfolding opened caseC turnedC
 first-dart-signature = refl
 
 pub first-dart-matched : Matched (mapOf caseC) (mapOf turnedC)
-unfolding opened mapOf table caseC turnedC
+unfolding opened caseC turnedC
 first-dart-matched = signature-complete C-accepted turnedC-accepted .0 (refl, refl, first-dart-signature)
 
 pub first-dart-wrong : ¬ ((M M′ : Map) → Accepted M → Accepted M′ → Matched M M′ → word M 1 ≡ word M′ 1)
@@ -219,15 +220,15 @@ unfoldable pub wrongClash : Map → ℕ → ℕ → Bool
 wrongClash M d i = eqb i 1 && some (d - 1) (λ e. eqb (sew M 1 e) (sew M 1 d))
 
 -- two darts that β2 sews to one another, and β1 to nothing
-unfoldable pub pair : Table
-pair = table 2 2 (0 ∷ 2 ∷ 0 ∷ 1 ∷ [])
+unfoldable pub pair : Given
+pair = lent 2 2 (0 ∷ 2 ∷ 0 ∷ 1 ∷ [])
 
 pub pair-accepted : Accepted (mapOf pair)
-unfolding opened checked table pair
+unfolding opened pair
 pair-accepted = checked-accepted pair refl
 
 pub clash-pair : (wrongClash (mapOf pair) 2 1 ≡ true) × (givenBefore (mapOf pair) 2 1 ≡ false)
-unfolding opened mapOf table pair wrongClash
+unfolding opened pair wrongClash
 clash-pair = (refl, refl)
 
 pub clash-wrong : ¬ ((M : Map) (d i : ℕ) → Accepted M → wrongClash M d i ≡ false)
@@ -253,28 +254,28 @@ pub record WrongMatching (M M′ : Map) (f : List ℕ) : Type 0 where
   pub keeps-sewn : (i d : ℕ) → 1 ≤ i → IsDart M d → 0 < sew M i d → nth f (sew M i d) ≡ sew M′ i (nth f d)
 
 -- A's dart is sewn to nothing, B's to itself
-unfoldable pub caseA : Table
-caseA = table 1 1 (0 ∷ [])
+unfoldable pub caseA : Given
+caseA = lent 1 1 (0 ∷ [])
 
-unfoldable pub caseB : Table
-caseB = table 1 1 (1 ∷ [])
+unfoldable pub caseB : Given
+caseB = lent 1 1 (1 ∷ [])
 
 pub A-accepted : Accepted (mapOf caseA)
-unfolding opened checked table caseA
+unfolding opened caseA
 A-accepted = checked-accepted caseA refl
 
 pub B-accepted : Accepted (mapOf caseB)
-unfolding opened checked table caseB
+unfolding opened caseB
 B-accepted = checked-accepted caseB refl
 
 A-unsewn : (i d : ℕ) → 1 ≤ i → IsDart (mapOf caseA) d → sew (mapOf caseA) i d ≡ 0
-unfolding opened mapOf table caseA
+unfolding opened caseA
 A-unsewn zero d low h = absurd (omega arith)
 A-unsewn (suc zero) d low h = let one : d ≡ 1 = omega arith in rw one
 A-unsewn (suc (suc i)) d low h = sew-high (mapOf caseA) (suc (suc i)) d (omega arith)
 
 pub sewn-alone-matching : WrongMatching (mapOf caseA) (mapOf caseB) (1 ∷ [])
-unfolding opened mapOf table caseA caseB badImage
+unfolding opened caseA caseB badImage
 sewn-alone-matching =
     record {
       same-dim = refl;
@@ -285,7 +286,7 @@ sewn-alone-matching =
     }
 
 pub sewn-alone-unmatched : ¬ Matched (mapOf caseA) (mapOf caseB)
-unfolding opened Matched mapOf table caseA caseB
+unfolding opened Matched caseA caseB
 sewn-alone-unmatched m = omega (arith, rw one at unsewn)
   where
     one : nth (m .0) 1 ≡ 1
@@ -295,8 +296,8 @@ sewn-alone-unmatched m = omega (arith, rw one at unsewn)
     unsewn = matching-unsewn (A-accepted .open-map) (m .1) 1 1 (omega arith) (omega arith) .0 refl
 
 -- the match gives 10, and the judging of the list 12
-pub sewn-alone-answers : (matched caseA caseB ≡ refused 10 0) × (judgeAnswer 1 1 (0 ∷ []) 1 1 (1 ∷ []) (1 ∷ []) ≡ refused 12 1)
-unfolding opened matched table caseA caseB imageOfFirst judgeSizes judgeMatching matchAnswer badImage parts judgeAnswer
+pub sewn-alone-answers : (matched caseA caseB ≡ refused 10 0) × (judgeAnswer caseA caseB (1 ∷ []) ≡ refused 12 1)
+unfolding opened matched caseA caseB badImage parts judgeAnswer
 sewn-alone-answers = (refl, refl)
 
 pub sewn-alone-wrong : ¬ ((M M′ : Map) (f : List ℕ) → Accepted M → Accepted M′ → WrongMatching M M′ f → Matched M M′)

@@ -1,2 +1,2 @@
--- What is proved of the promises of this crate.
-pub mod Only
+-- The laws of `specs/`.
+pub mod Boundary

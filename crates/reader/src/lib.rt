@@ -1,4 +1,5 @@
 // The C boundary: the calls that the camera's program makes, on numbers and slices. include/duftheim.h declares them.
+ghost use Rattle.maps.specs.Given.{lent};
 ghost use Rattle.reader.specs.Boundary.{SignedAs};
 use words::Signed;
 
@@ -18,7 +19,7 @@ pub extern "C" fn duftheim_signature(
     table: &[u16],
     output: &mut [u16],
 ) -> DuftheimSigned
-    ensures { λ r. ⌜ SignedAs n m (now (table .entry)) (now (output .entry)) r (now (output .exit)) ⌝ }
+    ensures { λ r. ⌜ SignedAs (lent n m (now (table .entry))) (now (output .entry)) r (now (output .exit)) ⌝ }
 {
     let signed = words::signature(n, m, table, output);
     match signed {

@@ -10,7 +10,7 @@ use Rattle.maps.specs.Map.{Map, IsDart, sew}
 use Rattle.maps.specs.Accepted.{Accepted}
 use Rattle.maps.specs.Matching.{Matching}
 use Rattle.maps.proofs.Matching.{kept-all}
-use Rattle.labels.specs.Labelling.{labelIn, labelling}
+use Rattle.labels.specs.Queue.{labelIn, labelling}
 use Rattle.labels.proofs.Carried.{Within, labelIn-carried, labelling-within, labelling-carried}
 use Rattle.words.specs.Words.{row, wordOf, word}
 

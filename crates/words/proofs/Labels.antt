@@ -1,5 +1,4 @@
 -- Labels as darts of a word, for theorems 4 and 6: what a labelling does as a function of the darts.
---     readAs M w                   the map that the word w writes down, of the size of M
 --     labels-matches               a dart goes to its label in the word read as a table
 --     SameWord M d M′ d′           accepted maps of one dimension have the same word, from d and from d′
 --     words-darts                  they then have as many darts
@@ -12,12 +11,13 @@ use native.Mathlib.Omega.{arith}
 use native.Mathlib.Nat.{eq-of-mul-eq-mul-left}
 use lib.ListN.{length}
 use Rattle.maps.specs.Least.{nth}
-use Rattle.maps.specs.Map.{Map, IsDart, sew, placeOf, tableMap}
+use Rattle.maps.specs.Map.{Map, IsDart, sew}
+use Rattle.maps.specs.Given.{placeOf, mapOf}
 use Rattle.maps.specs.Accepted.{Accepted}
 use Rattle.maps.proofs.Least.{nth-zero}
 use Rattle.maps.proofs.Map.{sew-beta}
 use Rattle.maps.proofs.Matching.{Stands, nothing, dart, past, stands, Matches}
-use Rattle.labels.specs.Labelling.{labelIn, labelling}
+use Rattle.labels.specs.Queue.{labelIn, labelling}
 use Rattle.labels.proofs.Queue.{queue-zero, labelling-queue}
 use Rattle.labels.proofs.Reached.{Numbering, labelling-numbers}
 use Rattle.words.specs.Theorems.{readAs}
@@ -56,7 +56,7 @@ module _ {M : Map} (a : Accepted M) (d : ℕ) (h : IsDart M d) where
 
   -- each dart goes to its label
   pub labels-matches : Matches M (readAs M (word M d)) (labelIn (labelling M d))
-  unfolding tableMap
+  unfolding mapOf
   labels-matches =
       record {
         same-dim = refl;

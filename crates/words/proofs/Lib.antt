@@ -4,10 +4,10 @@ pub mod Words
 pub mod Order
 pub mod Carried
 pub mod Labels
-pub mod Theorems
-pub mod Paper
+pub mod Meaning
 pub mod Lexicographic
 pub mod Starts
 pub mod Standing
 pub mod Racing
-pub mod Answers
+pub mod Sign
+pub mod Theorems

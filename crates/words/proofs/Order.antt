@@ -21,7 +21,7 @@ use borrow.Author.Tests.{lt-ltb, le-ltb, ltb-true, ltb-false, eq-eqb, eqb-true}
 use lib.Dec.{eqb, ltb}
 use Rattle.maps.specs.Map.{Map, IsDart}
 use Rattle.maps.proofs.Least.{Tested, passes, fails, tested, true-not-false, Found, passes-some, some-found}
-use Rattle.maps.proofs.Count.{count-le, count-passed}
+use Rattle.maps.proofs.Least.{count-le, count-passed}
 use Rattle.words.specs.Theorems.{Covers}
 use Rattle.words.specs.Words.{word, same, less, lesser, leastWord, signature, yields, start, symmetries}
 

@@ -1,67 +1,56 @@
 -- The labelling of a start while its word is judged: which queue the arrays hold, and that the number judged is the word's.
---     rowFrom M d k      the queue of the labelling from d once k darts are served and β0 of the next is met
---     row-number         the label just met is the word's number at its place
---     row-good           the queue holds darts alone, none twice
---     row-served         once the row is met, one dart more is served
+--     turnOf M d k               the dart whose turn it is once k darts are served
+--     turn-dart, turn-label      it is a dart, the one labelled k + 1
+--     row-number                 the label just met is the word's number at its place
+--     row-good                   the queue holds darts alone, none twice
+--     met-few                    the label met is one of the places
+--     Serving, serving-start     k darts are served, and the numbers of their rows judged
+--     Rowing, rowing-start, rowing-turn, rowing-left, rowing-end
+--                                of the next dart some sewings are met, and as many numbers judged
 -- Assumes nothing.
-use Prim.Native.Nat.{ℕ, zero, suc, _+_, _-_, _*_, _≤_, _<_, max}
+use Prim.Native.Nat.{ℕ, zero, suc, _+_, _-_, _*_, _≤_, _<_}
 use mathlib.Core.Path.{_≡_, refl, sym, ap, _∙_}
+use mathlib.Core.Bool.{Bool, true, false}
 use mathlib.Core.List.{List}
 use native.Mathlib.Omega.{arith}
 use native.Mathlib.Numerals.{add-one}
-use native.Mathlib.Nat.{le-suc-iff, mul-le-mul-right, mul-comm, suc-mul}
-use mathlib.Core.Logic.{⊎-elim}
+use native.Mathlib.Nat.{mul-le-mul-right, mul-comm, suc-mul}
 use borrow.Author.Tests.{eqb-true, eqb-false}
 use lib.Dec.{eqb}
-use mathlib.Core.Bool.{true}
 use lib.ListN.{length, getD, set, take, replicate}
 use lib.Seq.{getD-take}
 use Rattle.maps.specs.Least.{nth}
-use Rattle.maps.specs.Map.{Map, IsDart, sew, placeOf}
-use Rattle.maps.specs.Accepted.{Accepted}
+use Rattle.maps.specs.Map.{Map, IsDart, sew}
+use Rattle.maps.specs.Accepted.{ToDarts, Accepted}
+use Rattle.maps.specs.Given.{placeOf}
 use Rattle.maps.proofs.Least.{Tested, passes, fails, tested, nth-one-more, nth-suc}
-use Rattle.labels.specs.Labelling.{labelIn, visit, served, labelling}
-use Rattle.labels.specs.Arrays.{Queue, Holds, rowMet}
-use Rattle.labels.proofs.Queue.{labelIn-nil, visit-new, served-zero, served-ahead, Grown, grown-same, grown-trans, grown-label, visit-grown, visit-labels, visit-queue, queue-zero, served-suc, served-next, served-queue, labelling-grown, labelling-queue}
+use Rattle.maps.proofs.Accepted.{darts-most}
+use Rattle.labels.specs.Queue.{labelIn, visit, tried, served, labelling}
+use Rattle.labels.specs.Inside.{DartsOnce, Holds}
+use Rattle.labels.proofs.Queue.{labelIn-nil, labelIn-le, visit-new, visit-labels, served-zero, served-ahead, Grown, grown-trans, grown-label, tried-zero, tried-suc, tried-grown, tried-queue, serve-tried, queue-zero, served-suc, served-next, served-queue, labelling-grown, labelling-queue}
 use Rattle.labels.proofs.Reached.{labelling-numbers}
-use Rattle.labels.proofs.Arrays.{holds-same, holds-length, holds-blank, holds-new, holds-own, holds-room, rowMet-zero, rowMet-suc, serve-met}
-use Rattle.words.specs.Words.{word, less}
-use Rattle.words.specs.Racing.{Met, Wrote}
-use Rattle.words.proofs.Standing.{Standing, standing-start, standing-turn, standing-greater}
+use Rattle.labels.proofs.Inside.{holds-same, holds-length, holds-blank, holds-new}
+use Rattle.words.specs.Words.{word}
+use Rattle.words.specs.Inside.{Met, Weighed, leavesAt}
+use Rattle.words.specs.declared.engine.Side.{Side}
+use Rattle.words.specs.declared.engine.Side.the-variants.{Same}
+use Rattle.words.specs.declared.engine.Labelling.{Labelling}
+use Rattle.words.proofs.Standing.{Standing, Ended, standing-start, standing-turn, standing-left}
 use Rattle.words.proofs.Words.{length-word, nth-word}
 
 -- the dart whose turn it is once k darts are served
 abbrev pub turnOf : Map → ℕ → ℕ → ℕ
 turnOf M d k = nth (served M d k) (suc k)
 
--- the queue once k darts are served, and β0, β1, .. βi of the next are met
-unfoldable pub rowFrom : Map → ℕ → ℕ → ℕ → List ℕ
-rowFrom M d k i = rowMet M (visit (served M d k) (sew M 0 (turnOf M d k))) (turnOf M d k) i
+-- the queue once k darts are served, and β0, β1, .. βi of the next are tried
+abbrev pub rowOf : Map → ℕ → ℕ → ℕ → List ℕ
+rowOf M d k i = tried M (served M d k) (turnOf M d k) i
 
-module _ (M : Map) (d k : ℕ) where
-  pub rowFrom-zero : rowFrom M d k 0 ≡ visit (served M d k) (sew M 0 (turnOf M d k))
-  unfolding rowFrom
-  rowFrom-zero = rowMet-zero M _ (turnOf M d k)
-
-  pub rowFrom-suc : (i : ℕ) → rowFrom M d k (suc i) ≡ visit (rowFrom M d k i) (sew M (suc i) (turnOf M d k))
-  unfolding rowFrom
-  rowFrom-suc i = rowMet-suc M _ (turnOf M d k) i
-
-  pub rowFrom-served : rowFrom M d k (M .dim) ≡ served M d (suc k)
-  unfolding rowFrom
-  rowFrom-served = sym (served-suc M d k ∙ serve-met M (served M d k) _ (turnOf M d k) _ refl refl)
-
-  -- what is met later only adds to the queue
-  rowFrom-grown : (i j : ℕ) → i ≤ j → Grown (rowFrom M d k i) (rowFrom M d k j)
-  rowFrom-grown i zero h = grown-same (ap (rowFrom M d k) (let z : i ≡ 0 = omega arith in sym z))
-  rowFrom-grown i (suc j) h =
-      ⊎-elim
-      (λ below. grown-trans (rowFrom-grown i j below) (rw (rowFrom-suc j) (visit-grown _ _)))
-      (λ same. grown-same (ap (rowFrom M d k) (sym same)))
-      (le-suc-iff .0 h)
+row-served : (M : Map) (d k : ℕ) → rowOf M d k (M .dim) ≡ served M d (suc k)
+row-served M d k = sym (served-suc M d k ∙ serve-tried M (served M d k) (turnOf M d k))
 
 module _ {M : Map} (a : Accepted M) (d : ℕ) (dart : IsDart M d) (k : ℕ) (turn : k < M .darts) where
-  to-darts : (i e : ℕ) → sew M i e ≤ M .darts
+  to-darts : ToDarts M
   to-darts = a .open-map .to-darts
 
   all : length (labelling M d) ≡ M .darts
@@ -73,33 +62,32 @@ module _ {M : Map} (a : Accepted M) (d : ℕ) (dart : IsDart M d) (k : ℕ) (tur
   pub turn-dart : IsDart M (turnOf M d k)
   turn-dart = rw turn-label (labelling-queue M to-darts d dart .of-darts (suc k) (omega arith) (rw all turn))
 
-  pub row-good : (i : ℕ) → Queue M (rowFrom M d k i)
-  row-good zero = rw (rowFrom-zero M d k) (visit-queue (served-queue M to-darts d dart k) _ (to-darts 0 _))
-  row-good (suc i) = rw (rowFrom-suc M d k i) (visit-queue (row-good i) _ (to-darts (suc i) _))
+  pub row-good : (i : ℕ) → DartsOnce M (rowOf M d k i)
+  row-good i = tried-queue M to-darts (served-queue M to-darts d dart k) (turnOf M d k) i
 
   -- the label just met is the word's number at its place
-  pub row-number : (i : ℕ) → i < M .dim → labelIn (rowFrom M d k (suc i)) (sew M (suc i) (turnOf M d k)) ≡ getD (word M d) (k * M .dim + i) 0
+  pub row-number : (i : ℕ) → i < M .dim → labelIn (rowOf M d k (suc i)) (sew M (suc i) (turnOf M d k)) ≡ getD (word M d) (k * M .dim + i) 0
   unfolding placeOf
   row-number i below = final ∙ there
     where
       e : ℕ
       e = sew M (suc i) (turnOf M d k)
 
-      grown : Grown (rowFrom M d k (suc i)) (labelling M d)
+      grown : Grown (rowOf M d k (suc i)) (labelling M d)
       grown =
-          grown-trans (rowFrom-grown M d k (suc i) (M .dim) below)
-          (rw (rowFrom-served M d k) (labelling-grown M d (suc k) turn))
+          grown-trans (tried-grown M (served M d k) (turnOf M d k) (suc i) (M .dim) below)
+          (rw (row-served M d k) (labelling-grown M d (suc k) turn))
 
-      final : labelIn (rowFrom M d k (suc i)) e ≡ labelIn (labelling M d) e
+      final : labelIn (rowOf M d k (suc i)) e ≡ labelIn (labelling M d) e
       final = at (tested (eqb e 0))
         where
-          at : Tested (eqb e 0) → labelIn (rowFrom M d k (suc i)) e ≡ labelIn (labelling M d) e
+          at : Tested (eqb e 0) → labelIn (rowOf M d k (suc i)) e ≡ labelIn (labelling M d) e
           at (passes none) =
               let z : e ≡ 0 = eqb-true e 0 none in
               rw z (queue-zero (row-good (suc i)) ∙ sym (queue-zero (labelling-queue M to-darts d dart)))
           at (fails some) =
               let pos : 0 < e = omega (arith, eqb-false e 0 some) in
-              sym (grown-label grown e (rw (rowFrom-suc M d k i) (visit-labels _ e pos)))
+              sym (grown-label grown e (rw (tried-suc M (served M d k) (turnOf M d k) i) (visit-labels _ e pos)))
 
       there : labelIn (labelling M d) e ≡ getD (word M d) (k * M .dim + i) 0
       there =
@@ -111,45 +99,45 @@ module _ {M : Map} (a : Accepted M) (d : ℕ) (dart : IsDart M d) (k : ℕ) (tur
           ∙ nth-one-more (word M d) (k * M .dim + i)
 
 -- k darts are served, and the numbers of their rows judged
-pub record Serving (M : Map) (d : ℕ) (held₀ labels queue held : List ℕ) (given side p k : ℕ) : Type 0 where
+pub record Serving (M : Map) (d : ℕ) (firm : Bool) (held₀ labels queue held : List ℕ) (given : ℕ) (side : Side) (p k : ℕ) : Type 0 where
   pub high : k ≤ M .darts
   pub place : p ≡ k * M .dim
   pub holds : Holds labels queue given (served M d k)
-  pub stands : Standing (word M d) held₀ held side p
+  pub stands : Standing (word M d) held₀ held firm side p
 
 -- of the next dart β0, β1, .. βi are met, and i numbers of its row judged: however a start stood before, it stands on
-pub record Rowing (M : Map) (d k : ℕ) (held₀ labels queue held : List ℕ) (given side₀ p₀ side p i : ℕ) : Type 0 where
+pub record Rowing (M : Map) (d k : ℕ) (firm : Bool) (held₀ labels queue held : List ℕ) (given : ℕ) (side₀ : Side) (p₀ : ℕ) (side : Side) (p i : ℕ) : Type 0 where
   pub high : i ≤ M .dim
   pub place : p ≡ p₀ + i
-  pub holds : Holds labels queue given (rowFrom M d k i)
-  pub stands : (best : List ℕ) → length (word M d) ≤ length best → Standing (word M d) best held₀ side₀ p₀ → Standing (word M d) best held side p
+  pub holds : Holds labels queue given (rowOf M d k i)
+  pub stands : (best : List ℕ) → length (word M d) ≤ length best → Standing (word M d) best held₀ firm side₀ p₀ → Standing (word M d) best held firm side p
 
 -- a dart is met: the queue that the arrays held, with it
-met-holds : {labels queue labels′ queue′ q : List ℕ} {given e r g : ℕ}
+met-holds : {labels queue labels′ queue′ q : List ℕ} {given e : ℕ} {r : Labelling}
     → Holds labels queue given q
-    → Met labels′ queue′ given (take given queue) e r
-    → g ≡ max given r
+    → Met (take given queue) e labels′ queue′ r
     → (q′ : List ℕ)
     → q′ ≡ visit q e
-    → Holds labels′ queue′ g q′
-met-holds {e = e} h met is q′ same = rw is (holds-same (met .holds) (same ∙ ap (λ (l : List ℕ). visit l e) (sym (h .so-far))))
+    → Holds labels′ queue′ (r .given) q′
+met-holds {e = e} h met q′ same = holds-same (met .holds) (same ∙ ap (λ (l : List ℕ). visit l e) (sym (h .so-far)))
+
+-- the label met is one of the places
+pub met-few : {q labels queue : List ℕ} {e : ℕ} {r : Labelling} → Met q e labels queue r → r .label ≤ 1020
+met-few {q} {e = e} met = omega (arith, met .number, labelIn-le (visit q e) e, holds-length (met .holds), met .holds .few)
 
 module _ {M : Map} (a : Accepted M) (d : ℕ) (dart : IsDart M d) where
-  pub most : M .darts ≤ 1020
-  most = omega (arith, a .bounds .table-most, mul-le-mul-right (M .darts) (a .bounds .dim-least))
-
-  pub serving-start : (queue held : List ℕ) → length queue ≡ 1020 → Serving M d held (set (replicate 1020 0) (d - 1) 1) (set queue 0 d) held 1 0 0 0
-  serving-start queue held long =
+  pub serving-start : (firm : Bool) (queue held : List ℕ) → length queue ≡ 1020 → Serving M d firm held (set (replicate 1020 0) (d - 1) 1) (set queue 0 d) held 1 Same 0 0
+  serving-start firm queue held long =
       record {
         high = omega arith;
         place = omega arith;
         holds =
-            holds-same (holds-new (holds-blank queue long) d (dart .0) (omega (arith, most, dart .1)) (labelIn-nil d) (omega arith))
+            holds-same (holds-new (holds-blank queue long) d (dart .0) (omega (arith, darts-most (a .bounds), dart .1)) (labelIn-nil d) (omega arith))
             (served-zero M d ∙ sym (visit-new _ d (dart .0) (labelIn-nil d)));
-        stands = standing-start (word M d) held;
+        stands = standing-start (word M d) held firm;
       }
 
-  module _ {held₀ labels queue held : List ℕ} {given side p k : ℕ} (s : Serving M d held₀ labels queue held given side p k) (turn : k < M .darts) where
+  module _ {firm : Bool} {held₀ labels queue held : List ℕ} {given : ℕ} {side : Side} {p k : ℕ} (s : Serving M d firm held₀ labels queue held given side p k) (turn : k < M .darts) where
     -- the dart whose turn it is stands in the array
     ahead : k < given
     ahead = omega (arith, served-ahead M (a .open-map .to-darts) d dart k (rw (labelling-numbers a d dart .long) turn), holds-length (s .holds))
@@ -160,31 +148,31 @@ module _ {M : Map} (a : Accepted M) (d : ℕ) (dart : IsDart M d) where
         ∙ ap (λ (l : List ℕ). getD l k 0) (s .holds .so-far)
         ∙ sym (nth-suc (served M d k) k)
 
-    pub turn-good : Queue M (served M d k)
+    pub turn-good : DartsOnce M (served M d k)
     turn-good = served-queue M (a .open-map .to-darts) d dart k
 
     -- β0 of it is met, and its row begins
-    pub rowing-start : {labels′ queue′ : List ℕ} {e r g : ℕ} → e ≡ sew M 0 (turnOf M d k) → Met labels′ queue′ given (take given queue) e r → g ≡ max given r → Rowing M d k held labels′ queue′ held g side p side p 0
-    rowing-start {e = e} is met max-is =
+    pub rowing-start : {labels′ queue′ : List ℕ} {e : ℕ} {r : Labelling} → e ≡ sew M 0 (turnOf M d k) → Met (take given queue) e labels′ queue′ r → Rowing M d k firm held labels′ queue′ held (r .given) side p side p 0
+    rowing-start {e = e} is met =
         record {
           high = omega arith;
           place = omega arith;
-          holds = met-holds (s .holds) met max-is (rowFrom M d k 0) (rowFrom-zero M d k ∙ ap (visit (served M d k)) (sym is));
+          holds = met-holds (s .holds) met (rowOf M d k 0) (tried-zero M _ (turnOf M d k) ∙ ap (visit (served M d k)) (sym is));
           stands = λ best fits t. t;
         }
 
     -- the row ends, and one dart more is served
-    pub rowing-end : {labels′ queue′ held′ : List ℕ} {given′ side′ p′ i : ℕ} → Rowing M d k held labels′ queue′ held′ given′ side p side′ p′ i → length (word M d) ≤ length held₀ → M .dim ≤ i → Serving M d held₀ labels′ queue′ held′ given′ side′ p′ (k + 1)
+    pub rowing-end : {labels′ queue′ held′ : List ℕ} {given′ : ℕ} {side′ : Side} {p′ i : ℕ} → Rowing M d k firm held labels′ queue′ held′ given′ side p side′ p′ i → length (word M d) ≤ length held₀ → M .dim ≤ i → Serving M d firm held₀ labels′ queue′ held′ given′ side′ p′ (k + 1)
     rowing-end {i = i} w fits done =
         let all : i ≡ M .dim = omega (arith, w .high) in
         record {
           high = omega arith;
           place = w .place ∙ ap (λ (j : ℕ). p + j) all ∙ ap (λ (j : ℕ). j + M .dim) (s .place) ∙ sym (suc-mul k (M .dim)) ∙ ap (λ (j : ℕ). j * M .dim) (sym (add-one k));
-          holds = holds-same (w .holds) (ap (served M d) (add-one k) ∙ sym (rowFrom-served M d k) ∙ ap (rowFrom M d k) (sym all));
+          holds = holds-same (w .holds) (ap (served M d) (add-one k) ∙ sym (row-served M d k) ∙ ap (rowOf M d k) (sym all));
           stands = w .stands held₀ fits (s .stands);
         }
 
-    module _ {labels₁ queue₁ held₁ : List ℕ} {given₁ side₁ p₁ i : ℕ} (w : Rowing M d k held labels₁ queue₁ held₁ given₁ side p side₁ p₁ i) (below : i < M .dim) where
+    module _ {labels₁ queue₁ held₁ : List ℕ} {given₁ : ℕ} {side₁ : Side} {p₁ i : ℕ} (w : Rowing M d k firm held labels₁ queue₁ held₁ given₁ side p side₁ p₁ i) (below : i < M .dim) where
       -- the place of the number that is judged next
       here : p₁ ≡ k * M .dim + i
       here = w .place ∙ ap (λ (j : ℕ). j + i) (s .place)
@@ -194,32 +182,36 @@ module _ {M : Map} (a : Accepted M) (d : ℕ) (dart : IsDart M d) where
           let row : suc k * M .dim ≤ M .darts * M .dim = mul-le-mul-right (M .dim) turn in
           omega (arith, here, length-word a d dart, mul-comm (M .darts) (M .dim), suc-mul k (M .dim))
 
-      module _ {labels′ queue′ : List ℕ} {e r g : ℕ} (is : e ≡ sew M (suc i) (turnOf M d k)) (met : Met labels′ queue′ given₁ (take given₁ queue₁) e r) (max-is : g ≡ max given₁ r) where
-        next : rowFrom M d k (suc i) ≡ visit (rowFrom M d k i) e
-        next = rowFrom-suc M d k i ∙ ap (visit (rowFrom M d k i)) (sym is)
+      -- a start that is run on was not left
+      pub row-on : length (word M d) ≤ length held₀ → leavesAt firm side₁ ≡ false
+      row-on fits = w .stands held₀ fits (s .stands) .on
 
-        pub row-holds : Holds labels′ queue′ g (rowFrom M d k (suc i))
-        row-holds = met-holds (w .holds) met max-is (rowFrom M d k (suc i)) next
+      module _ {labels′ queue′ : List ℕ} {e : ℕ} {r : Labelling} (is : e ≡ sew M (suc i) (turnOf M d k)) (met : Met (take given₁ queue₁) e labels′ queue′ r) where
+        next : rowOf M d k (suc i) ≡ visit (rowOf M d k i) e
+        next = tried-suc M _ (turnOf M d k) i ∙ ap (visit (rowOf M d k i)) (sym is)
+
+        pub row-holds : Holds labels′ queue′ (r .given) (rowOf M d k (suc i))
+        row-holds = met-holds (w .holds) met (rowOf M d k (suc i)) next
 
         -- the number that is judged is the word's
-        pub row-judged : r ≡ getD (word M d) p₁ 0
+        pub row-judged : r .label ≡ getD (word M d) p₁ 0
         row-judged =
             met .number
             ∙ ap (λ (l : List ℕ). labelIn (visit l e) e) (w .holds .so-far)
             ∙ ap (λ (l : List ℕ). labelIn l e) (sym next)
-            ∙ ap (labelIn (rowFrom M d k (suc i))) is
+            ∙ ap (labelIn (rowOf M d k (suc i))) is
             ∙ row-number a d dart k turn i below
             ∙ ap (λ (j : ℕ). getD (word M d) j 0) (sym here)
 
-        module _ {held′ : List ℕ} {side′ : ℕ} (wrote : Wrote held₁ held′ p₁ r side₁ side′) where
-          pub rowing-turn : (side′ ≡ 2 → ⊥) → Rowing M d k held labels′ queue′ held′ g side p side′ (p₁ + 1) (i + 1)
+        module _ {held′ : List ℕ} {side′ : Side} (weighed : Weighed held₁ held′ p₁ (r .label) side₁ firm side′) where
+          pub rowing-turn : leavesAt firm side′ ≡ false → Rowing M d k firm held labels′ queue′ held′ (r .given) side p side′ (p₁ + 1) (i + 1)
           rowing-turn on =
               record {
                 high = omega arith;
                 place = omega (arith, w .place);
                 holds = rw (add-one i) row-holds;
-                stands = λ best fits t. standing-turn (w .stands best fits t) fits row-inside r row-judged wrote on;
+                stands = λ best fits t. standing-turn (w .stands best fits t) fits row-inside (r .label) row-judged weighed on;
               }
 
-          pub rowing-greater : length (word M d) ≤ length held₀ → side′ ≡ 2 → (less (take (length (word M d)) held₀) (word M d) ≡ true) × (held′ ≡ held₀)
-          rowing-greater fits up = standing-greater (w .stands held₀ fits (s .stands)) fits row-inside r row-judged wrote up
+          pub rowing-left : length (word M d) ≤ length held₀ → leavesAt firm side′ ≡ true → Ended (word M d) held₀ held′ firm side′
+          rowing-left fits gone = standing-left (w .stands held₀ fits (s .stands)) fits row-inside (r .label) row-judged weighed gone

@@ -1,68 +1,95 @@
--- How a start stands against the best word, number by number, and what its race leaves.
---     Standing W held₀ held side p     p numbers of the word W are judged: `held₀` held the best word, and `held` holds what it became
---     standing-start                   before any number
---     standing-turn                    one number more, where it is not greater
---     standing-greater                 the first number that is greater ends the race
---     standing-end                     all numbers are judged
+-- How a start stands against the word held, number by number, and what its race leaves.
+--     Standing              p numbers of the word W are judged: `held₀` was held, and `held` is now
+--     Ended                 how W comes out, and what is then held
+--     standing-start        before any number
+--     standing-turn         one number more, where the start is not left
+--     standing-left         the number at which it is left
+--     standing-end          all numbers are judged
 -- Assumes nothing.
-use Prim.Native.Nat.{ℕ, suc, _+_, _-_, _*_, _≤_, _<_}
+use Prim.Native.Nat.{ℕ, suc, _+_, _≤_, _<_}
 use mathlib.Core.Path.{_≡_, refl, sym, ap, _∙_}
-use mathlib.Core.Bool.{Bool, true, false, cond}
+use mathlib.Core.Bool.{Bool, true, false, cond, not, _&&_}
 use mathlib.Core.List.{List, [], _∷_, _++_}
 use native.Mathlib.Omega.{arith}
 use native.Mathlib.Numerals.{add-one}
-use borrow.Author.Tests.{eq-eqb, ne-eqb, eqb-true, eqb-false, ltb-true, ltb-false, lt-ltb}
-use lib.Dec.{eqb, ltb}
+use borrow.Author.Tests.{ltb-true, ltb-false}
+use lib.Dec.{ltb}
 use lib.ListN.{length, getD, set, take, drop, length-set, take-append-drop}
 use lib.Seq.{take-suc, drop-drop, take-suc-set, drop-set-lt, getD-take, take-take, length-take-le, take-length}
-use Rattle.maps.proofs.Least.{Tested, passes, fails, tested}
+use Rattle.maps.proofs.Least.{Tested, passes, fails, tested, true-not-false}
 use Rattle.words.specs.Words.{less, lesser}
 use Rattle.words.specs.Sign.{over}
-use Rattle.words.specs.Racing.{sideOf, sideAfter, Wrote}
+use Rattle.words.specs.Inside.{sideOf, sideAfter, leavesAt, isLess, Weighed}
+use Rattle.words.specs.declared.engine.Side.{Side}
+use Rattle.words.specs.declared.engine.Side.the-variants.{Less, Same, Greater}
 use Rattle.words.proofs.Lexicographic.{less-at}
 use Rattle.words.proofs.Starts.{less-side, same-side, greater-side, lesser-less, lesser-same, lesser-greater}
 
--- p numbers of W are judged against what `held₀` holds: side 0 where they are the same, 1 where W is less and is being written
-pub record Standing (W held₀ held : List ℕ) (side p : ℕ) : Type 0 where
+-- p numbers of W are judged against what `held₀` holds: the same so far; or W is less, the word not firm, and W is being written
+pub record Standing (W held₀ held : List ℕ) (firm : Bool) (side : Side) (p : ℕ) : Type 0 where
   pub long : length held ≡ length held₀
   pub high : p ≤ length W
   pub agrees : take p held ≡ take p W
   pub rest : drop p held ≡ drop p held₀
-  pub low : side ≤ 1
-  pub tied : side ≡ 0 → held ≡ held₀
-  pub won : side ≡ 1 → less W (take (length W) held₀) ≡ true
+  pub on : leavesAt firm side ≡ false
+  pub tied : side ≡ Same → held ≡ held₀
+  pub won : side ≡ Less → less W (take (length W) held₀) ≡ true
 
-pub standing-start : (W held : List ℕ) → Standing W held held 0 0
-standing-start W held =
+-- how W comes out, and what is held once it has
+pub record Ended (W held₀ held : List ℕ) (firm : Bool) (side : Side) : Type 0 where
+  pub outcome : side ≡ sideOf W (take (length W) held₀)
+  pub best : held ≡ cond firm held₀ (over (lesser (take (length W) held₀) W) held₀)
+
+pub standing-start : (W held : List ℕ) (firm : Bool) → Standing W held held firm Same 0
+unfolding leavesAt
+standing-start W held firm =
     record {
       long = refl;
       high = omega arith;
       agrees = refl;
       rest = refl;
-      low = omega arith;
+      on = refl;
       tied = λ z. refl;
-      won = λ z. absurd (omega arith);
+      won = λ z. absurd (let y : _≡_ {A = ℕ} 0 1 = cc in omega arith);
     }
 
 -- where a number leads, by the side before it
-data Leads (side x y r : ℕ) : Type 0 where
-  stays : side ≡ 1 → r ≡ 1 → Leads side x y r
-  falls : (side ≡ 1 → ⊥) → x < y → r ≡ 1 → Leads side x y r
-  rises : (side ≡ 1 → ⊥) → y < x → r ≡ 2 → Leads side x y r
-  keeps : (side ≡ 1 → ⊥) → x ≡ y → r ≡ 0 → Leads side x y r
+data Leads (side : Side) (x y : ℕ) (r : Side) : Type 0 where
+  stays : side ≡ Less → r ≡ Less → Leads side x y r
+  falls : side ≡ Same → x < y → r ≡ Less → Leads side x y r
+  rises : side ≡ Same → y < x → r ≡ Greater → Leads side x y r
+  keeps : side ≡ Same → x ≡ y → r ≡ Same → Leads side x y r
 
-leads : (side x y r : ℕ) → r ≡ sideAfter side x y → Leads side x y r
-unfolding sideAfter
-leads side x y r is = at (tested (eqb side 1)) (tested (ltb x y)) (tested (ltb y x))
+leads : (firm : Bool) (side : Side) (x y : ℕ) (r : Side) → leavesAt firm side ≡ false → r ≡ sideAfter side x y → Leads side x y r
+unfolding sideAfter leavesAt
+leads firm Less x y r on is = stays refl is
+leads firm Greater x y r on is = absurd (true-not-false refl on)
+leads firm Same x y r on is = at (tested (ltb x y)) (tested (ltb y x))
   where
-    at : Tested (eqb side 1) → Tested (ltb x y) → Tested (ltb y x) → Leads side x y r
-    at (passes s) a b = stays (eqb-true side 1 s) (simp s at is)
-    at (fails s) (passes a) b = falls (eqb-false side 1 s) (ltb-true x y a) (simp (s, a) at is)
-    at (fails s) (fails a) (passes b) = rises (eqb-false side 1 s) (ltb-true y x b) (simp (s, a, b) at is)
-    at (fails s) (fails a) (fails b) =
-        keeps (eqb-false side 1 s) (omega (arith, ltb-false x y a, ltb-false y x b)) (simp (s, a, b) at is)
+    at : Tested (ltb x y) → Tested (ltb y x) → Leads Same x y r
+    at (passes a) b = falls refl (ltb-true x y a) (simp a at is)
+    at (fails a) (passes b) = rises refl (ltb-true y x b) (simp (a, b) at is)
+    at (fails a) (fails b) = keeps refl (omega (arith, ltb-false x y a, ltb-false y x b)) (simp (a, b) at is)
 
-module _ {W held₀ held : List ℕ} {side p : ℕ} (s : Standing W held₀ held side p) (fits : length W ≤ length held₀) (inside : p < length W) where
+-- the first numbers written over themselves change nothing
+over-take : (k : ℕ) (held : List ℕ) → k ≤ length held → over (take k held) held ≡ held
+unfolding over
+over-take k held fits = rw (length-take-le k held fits) (take-append-drop k held)
+
+-- a start that is not less leaves what was held
+module _ (W held₀ : List ℕ) (fits : length W ≤ length held₀) where
+  either : (firm : Bool) (held : List ℕ) → held ≡ held₀ → lesser (take (length W) held₀) W ≡ take (length W) held₀ → held ≡ cond firm held₀ (over (lesser (take (length W) held₀) W) held₀)
+  either true held same l = same
+  either false held same l = same ∙ sym (ap (λ (w : List ℕ). over w held₀) l ∙ over-take (length W) held₀ fits)
+
+  ended-greater : (firm : Bool) {held : List ℕ} {side : Side} → side ≡ Greater → less (take (length W) held₀) W ≡ true → held ≡ held₀ → Ended W held₀ held firm side
+  ended-greater firm {held} is h same =
+      record { outcome = is ∙ sym (greater-side W _ h); best = either firm held same (lesser-greater W _ h) }
+
+  ended-same : (firm : Bool) {held : List ℕ} {side : Side} → side ≡ Same → W ≡ take (length W) held₀ → held ≡ held₀ → Ended W held₀ held firm side
+  ended-same firm {held} is h same = record { outcome = is ∙ sym (same-side W _ h); best = either firm held same (lesser-same W _ h) }
+
+module _ {W held₀ held : List ℕ} {firm : Bool} {side : Side} {p : ℕ} (s : Standing W held₀ held firm side p) (fits : length W ≤ length held₀) (inside : p < length W) where
   best : List ℕ
   best = take (length W) held₀
 
@@ -75,7 +102,7 @@ module _ {W held₀ held : List ℕ} {side p : ℕ} (s : Standing W held₀ held
       let more : p + 1 ≡ suc p = add-one p in
       rw more at (sym (drop-drop 1 p held) ∙ ap (drop 1) (s .rest) ∙ drop-drop 1 p held₀)
 
-  -- a start that is tied has the best word's numbers so far, and what is held is the best word
+  -- a start that is tied has the numbers held so far
   tied-best : held ≡ held₀ → take p best ≡ take p W
   unfolding best
   tied-best same = take-take p (length W) held₀ (omega arith) ∙ ap (take p) (sym same) ∙ s .agrees
@@ -89,10 +116,23 @@ module _ {W held₀ held : List ℕ} {side p : ℕ} (s : Standing W held₀ held
   best-long = length-take-le (length W) held₀ fits
 
   module _ (x : ℕ) (number : x ≡ getD W p 0) where
-    -- the number is written
-    standing-written : (less W best ≡ true) → Standing W held₀ (set held p x) 1 (p + 1)
+    -- the first number that differs decides
+    falls-less : side ≡ Same → x < getD held p 0 → less W (take (length W) held₀) ≡ true
     unfolding best
-    standing-written less-now =
+    falls-less tie below =
+        let same = s .tied tie in
+        less-at W best p inside (rw best-long inside) (sym (tied-best same)) (rw (← number, best-here same) below)
+
+    rises-greater : side ≡ Same → getD held p 0 < x → less (take (length W) held₀) W ≡ true
+    unfolding best
+    rises-greater tie above =
+        let same = s .tied tie in
+        less-at best W p (rw best-long inside) inside (tied-best same) (rw (← number, best-here same) above)
+
+    -- the number is written
+    standing-written : firm ≡ false → less W (take (length W) held₀) ≡ true → Standing W held₀ (set held p x) firm Less (p + 1)
+    unfolding leavesAt
+    standing-written unfirm less-now =
         rw (add-one p)
         (record {
           long = length-set held p x ∙ s .long;
@@ -103,13 +143,14 @@ module _ {W held₀ held : List ℕ} {side p : ℕ} (s : Standing W held₀ held
               ∙ ap (λ (y : ℕ). take p W ++ (y ∷ [])) number
               ∙ sym (take-suc W p 0 inside);
           rest = drop-set-lt (suc p) held p x (omega arith) ∙ rest-more;
-          low = omega arith;
-          tied = λ z. absurd (omega arith);
+          on = unfirm;
+          tied = λ z. absurd (let y : _≡_ {A = ℕ} 0 1 = cc in omega arith);
           won = λ z. less-now;
         })
 
-    -- the number is the best word's own
-    standing-same : side ≡ 0 → x ≡ getD held p 0 → Standing W held₀ held 0 (p + 1)
+    -- the number is the one held
+    standing-same : side ≡ Same → x ≡ getD held p 0 → Standing W held₀ held firm Same (p + 1)
+    unfolding leavesAt
     standing-same tie is =
         rw (add-one p)
         (record {
@@ -121,82 +162,84 @@ module _ {W held₀ held : List ℕ} {side p : ℕ} (s : Standing W held₀ held
               ∙ ap (λ (y : ℕ). take p W ++ (y ∷ [])) (sym is ∙ number)
               ∙ sym (take-suc W p 0 inside);
           rest = rest-more;
-          low = omega arith;
+          on = refl;
           tied = λ z. s .tied tie;
-          won = λ z. absurd (omega arith);
+          won = λ z. absurd (let y : _≡_ {A = ℕ} 0 1 = cc in omega arith);
         })
 
-    module _ {held′ : List ℕ} {r : ℕ} (w : Wrote held held′ p x side r) where
-      -- what is written where the start is less, and what stays otherwise
-      wrote-less : r ≡ 1 → held′ ≡ set held p x
-      wrote-less is = w .written ∙ simp (eq-eqb r 1 is)
+    module _ {held′ : List ℕ} {r : Side} (w : Weighed held held′ p x side firm r) where
+      -- what is written where the start is less and the word not firm, and what stays otherwise
+      wrote-less : r ≡ Less → firm ≡ false → held′ ≡ set held p x
+      unfolding isLess
+      wrote-less is unfirm = w .written ∙ rw (is, unfirm)
 
-      wrote-not : (r ≡ 1 → ⊥) → held′ ≡ held
-      wrote-not not = w .written ∙ simp (ne-eqb r 1 not)
+      wrote-firm : r ≡ Less → firm ≡ true → held′ ≡ held
+      unfolding isLess
+      wrote-firm is firmly = w .written ∙ rw (is, firmly)
 
-      -- one number more, where it is not greater
-      pub standing-turn : (r ≡ 2 → ⊥) → Standing W held₀ held′ r (p + 1)
-      unfolding best
-      standing-turn on = at (leads side x (getD held p 0) r (w .side-after))
+      wrote-greater : r ≡ Greater → held′ ≡ held
+      unfolding isLess
+      wrote-greater is = w .written ∙ rw is
+
+      wrote-same : r ≡ Same → held′ ≡ held
+      unfolding isLess
+      wrote-same is = w .written ∙ rw is
+
+      -- one number more, where the start is not left
+      pub standing-turn : leavesAt firm r ≡ false → Standing W held₀ held′ firm r (p + 1)
+      unfolding leavesAt
+      standing-turn on = at (leads firm side x (getD held p 0) r (s .on) (w .side-after))
         where
-          at : Leads side x (getD held p 0) r → Standing W held₀ held′ r (p + 1)
-          at (stays one is) = rw (wrote-less is, is) (standing-written (s .won one))
-          at (falls other below is) =
-              let tie : held ≡ held₀ = s .tied (omega (arith, s .low)) in
-              let lower : getD W p 0 < getD best p 0 = rw (← number, best-here tie) below in
-              rw (wrote-less is, is) (standing-written (less-at W best p inside (rw best-long inside) (sym (tied-best tie)) lower))
-          at (rises other above is) = absurd (on is)
-          at (keeps other same is) =
-              rw (wrote-not (λ z. omega (arith, is)), is) (standing-same (omega (arith, s .low)) same)
+          at : Leads side x (getD held p 0) r → Standing W held₀ held′ firm r (p + 1)
+          at (stays one is) =
+              let unfirm : firm ≡ false = rw is at on in
+              rw (wrote-less is unfirm, is) (standing-written unfirm (s .won one))
+          at (falls tie below is) =
+              let unfirm : firm ≡ false = rw is at on in
+              rw (wrote-less is unfirm, is) (standing-written unfirm (falls-less tie below))
+          at (rises tie above is) = absurd (let no : true ≡ false = rw is at on in true-not-false refl no)
+          at (keeps tie same is) = rw (wrote-same is, is) (standing-same tie same)
 
-      -- the first number that is greater ends the race, and the best word stays
-      pub standing-greater : r ≡ 2 → (less (take (length W) held₀) W ≡ true) × (held′ ≡ held₀)
-      unfolding best
-      standing-greater up = at (leads side x (getD held p 0) r (w .side-after))
+      -- the number at which the start is left decides, and what is held stays
+      pub standing-left : leavesAt firm r ≡ true → Ended W held₀ held′ firm r
+      unfolding leavesAt
+      standing-left gone = at (leads firm side x (getD held p 0) r (s .on) (w .side-after))
         where
-          at : Leads side x (getD held p 0) r → (less (take (length W) held₀) W ≡ true) × (held′ ≡ held₀)
-          at (stays one is) = absurd (omega (arith, is, up))
-          at (falls other below is) = absurd (omega (arith, is, up))
-          at (rises other above is) =
-              let tie : held ≡ held₀ = s .tied (omega (arith, s .low)) in
-              let higher : getD best p 0 < getD W p 0 = rw (← number, best-here tie) above in
-              (less-at best W p (rw best-long inside) inside (tied-best tie) higher, wrote-not (λ z. omega (arith, is)) ∙ tie)
-          at (keeps other same is) = absurd (omega (arith, is, up))
+          at : Leads side x (getD held p 0) r → Ended W held₀ held′ firm r
+          at (stays one is) =
+              let unfirm : firm ≡ false = rw one at (s .on) in
+              let firmly : firm ≡ true = rw is at gone in
+              absurd (true-not-false firmly unfirm)
+          at (falls tie below is) =
+              let firmly : firm ≡ true = rw is at gone in
+              record {
+                outcome = is ∙ sym (less-side W (take (length W) held₀) (falls-less tie below));
+                best = wrote-firm is firmly ∙ s .tied tie ∙ rw firmly;
+              }
+          at (rises tie above is) = ended-greater W held₀ fits firm is (rises-greater tie above) (wrote-greater is ∙ s .tied tie)
+          at (keeps tie same is) = absurd (let no : false ≡ true = rw is at gone in true-not-false refl (sym no))
 
--- the first numbers written over themselves change nothing
-over-take : (k : ℕ) (held : List ℕ) → k ≤ length held → over (take k held) held ≡ held
-unfolding over
-over-take k held fits = rw (length-take-le k held fits) (take-append-drop k held)
+-- all numbers are judged
+pub standing-end : {W held₀ held : List ℕ} {firm : Bool} {side : Side} → length W ≤ length held₀ → Standing W held₀ held firm side (length W) → Ended W held₀ held firm side
+unfolding over leavesAt
+standing-end {W} {held₀} {held} {firm} {side} fits s = at side refl
+  where
+    whole : take (length W) held ≡ W
+    whole = s .agrees ∙ take-length W
 
--- what a race leaves where a number is greater, and where all numbers are judged
-module _ (W held₀ held : List ℕ) (fits : length W ≤ length held₀) where
-  pub greater-end : (less (take (length W) held₀) W ≡ true) × (held ≡ held₀) → (2 ≡ sideOf W (take (length W) held₀)) × (held ≡ over (lesser (take (length W) held₀) W) held₀)
-  greater-end g =
-      let B = take (length W) held₀ in (
-        sym (greater-side W B (g .0)),
-        g .1 ∙ sym (ap (λ (l : List ℕ). over l held₀) (lesser-greater W B (g .0)) ∙ over-take (length W) held₀ fits),
-      )
-
-  pub standing-end : (side : ℕ) → Standing W held₀ held side (length W) → (side ≡ sideOf W (take (length W) held₀)) × (held ≡ over (lesser (take (length W) held₀) W) held₀)
-  unfolding over
-  standing-end side s = at (tested (eqb side 1))
-    where
-      whole : take (length W) held ≡ W
-      whole = s .agrees ∙ take-length W
-
-      at : Tested (eqb side 1) → (side ≡ sideOf W (take (length W) held₀)) × (held ≡ over (lesser (take (length W) held₀) W) held₀)
-      at (passes one) =
-          let is : side ≡ 1 = eqb-true side 1 one in (
-            is ∙ sym (less-side W (take (length W) held₀) (s .won is)),
-            sym (take-append-drop (length W) held)
-                ∙ ap (λ (l : List ℕ). l ++ drop (length W) held) whole
-                ∙ ap (λ (l : List ℕ). W ++ l) (s .rest)
-                ∙ sym (ap (λ (l : List ℕ). over l held₀) (lesser-less W (take (length W) held₀) (s .won is))),
-          )
-      at (fails other) =
-          let tie : side ≡ 0 = omega (arith, s .low, eqb-false side 1 other) in
-          let same-held : held ≡ held₀ = s .tied tie in
-          let same-word : W ≡ take (length W) held₀ = sym whole ∙ ap (take (length W)) same-held in (
-            tie ∙ sym (same-side W (take (length W) held₀) same-word),
-            same-held ∙ sym (ap (λ (l : List ℕ). over l held₀) (lesser-same W (take (length W) held₀) same-word) ∙ over-take (length W) held₀ fits),
-          )
+    at : (t : Side) → side ≡ t → Ended W held₀ held firm side
+    at Less is =
+        let unfirm : firm ≡ false = rw is at (s .on) in
+        record {
+          outcome = is ∙ sym (less-side W (take (length W) held₀) (s .won is));
+          best =
+              sym (take-append-drop (length W) held)
+              ∙ ap (λ (l : List ℕ). l ++ drop (length W) held) whole
+              ∙ ap (λ (l : List ℕ). W ++ l) (s .rest)
+              ∙ sym (ap (λ (l : List ℕ). over l held₀) (lesser-less W (take (length W) held₀) (s .won is)))
+              ∙ rw unfirm;
+        }
+    at Same is =
+        let same = s .tied is in
+        ended-same W held₀ fits firm is (sym whole ∙ ap (take (length W)) same) same
+    at Greater is = absurd (let no : true ≡ false = rw is at (s .on) in true-not-false refl no)

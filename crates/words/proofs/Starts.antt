@@ -1,14 +1,16 @@
 -- The starts are tried one after the other against the best word so far (01: "the least word in lexicographic order over all m
 -- starts"): what `Signing::run` keeps, as functions of the map.
---     Side w b, side                     a word is less than the best, the same or greater, with what `sideOf` and `lesser` are there
---     side-less, less-side, ..           the three, from `sideOf` and to it
+--     Against, against                   a word is less than the best, the same or greater, with what `sideOf` and `lesser` are there
+--     less-side, same-side, greater-side
+--                                        how each comes out
 --     lesser-less, lesser-same, lesser-greater
 --                                        which of the two is the lesser
 --     bestAfter, sideAt, startAfter, countAfter
 --                                        the best word once the first k starts are tried, how start k + 1 comes out against it, the
 --                                        least start that yields it and how many do
---     bestAfter-zero, bestAfter-suc, ..  they start and go on as the code does
+--     bestAfter-zero, bestAfter-suc      they start and go on as the code does
 --     bestAfter-least, length-bestAfter  it is the least word of those starts, and as long as a word
+--     word-below                         every word is less than the numbers that stand before the first start
 --     startAfter-least, countAfter-count, countAfter-le
 --                                        the other two are the least such start, and the count, of the starts tried
 --     bestAfter-signature, startAfter-start, countAfter-symmetries
@@ -24,14 +26,17 @@ use borrow.Author.Tests.{eq-eqb, ne-eqb, ltb-true}
 use lib.Dec.{eqb}
 use lib.ListN.{length, getD, replicate, length-replicate, getD-replicate}
 use Rattle.maps.specs.Least.{nth, least, some, count}
-use Rattle.maps.specs.Map.{Map, IsDart, sew, placeOf}
+use Rattle.maps.specs.Map.{Map, IsDart, sew}
+use Rattle.maps.specs.Given.{placeOf}
 use Rattle.maps.specs.Accepted.{Accepted}
-use Rattle.maps.proofs.Least.{Tested, passes, fails, tested, true-not-false, Misses, nth-suc, none-least, least-hit, least-kept, passes-some, some-found}
-use Rattle.maps.proofs.Count.{count-le}
-use Rattle.labels.specs.Labelling.{labelIn, labelling}
+use Rattle.maps.proofs.Least.{Tested, passes, fails, tested, true-not-false, Misses, nth-suc, none-least, least-hit, least-kept, passes-some, some-found, count-le}
+use Rattle.maps.proofs.Accepted.{darts-most}
+use Rattle.labels.specs.Queue.{labelIn, labelling}
 use Rattle.labels.proofs.Reached.{labelling-numbers}
 use Rattle.words.specs.Words.{word, same, less, lesser, leastWord, signature, yields, start, symmetries}
-use Rattle.words.specs.Racing.{sideOf}
+use Rattle.words.specs.Inside.{sideOf, startedAt, countedAt}
+use Rattle.words.specs.declared.engine.Side.{Side}
+use Rattle.words.specs.declared.engine.Side.the-variants.{Less, Same, Greater}
 use Rattle.words.proofs.Words.{length-word, nth-word}
 use Rattle.words.proofs.Order.{same-equal, equal-same, less-irreflexive, less-transitive, before-less, Compared, before, equal, after, compared, leastWord-one, leastWord-least, yields-word, word-yields}
 use Rattle.words.proofs.Lexicographic.{less-at}
@@ -68,55 +73,31 @@ module _ (w b : List ℕ) where
   pub lesser-greater : less b w ≡ true → lesser b w ≡ b
   lesser-greater h = lesser-stays (greater-not-less h)
 
-  pub less-side : less w b ≡ true → sideOf w b ≡ 1
+  pub less-side : less w b ≡ true → sideOf w b ≡ Less
   unfolding sideOf
   less-side h = simp h
 
-  pub same-side : w ≡ b → sideOf w b ≡ 0
+  pub same-side : w ≡ b → sideOf w b ≡ Same
   unfolding sideOf
   same-side e = simp (same-not-less e, equal-same w b e)
 
-  pub greater-side : less b w ≡ true → sideOf w b ≡ 2
+  pub greater-side : less b w ≡ true → sideOf w b ≡ Greater
   unfolding sideOf
   greater-side h = simp (greater-not-less h, false-of-not-true (same w b) (λ e. greater-not-same h (same-equal w b e)))
 
   -- the word w against the best word b
-  pub data Side : Type 0 where
-    lower : sideOf w b ≡ 1 → less w b ≡ true → lesser b w ≡ w → Side
-    level : sideOf w b ≡ 0 → w ≡ b → lesser b w ≡ b → Side
-    higher : sideOf w b ≡ 2 → less b w ≡ true → lesser b w ≡ b → Side
+  pub data Against : Type 0 where
+    lower : sideOf w b ≡ Less → less w b ≡ true → lesser b w ≡ w → Against
+    level : sideOf w b ≡ Same → w ≡ b → lesser b w ≡ b → Against
+    higher : sideOf w b ≡ Greater → less b w ≡ true → lesser b w ≡ b → Against
 
-  pub side : Side
-  side = at (compared w b)
+  pub against : Against
+  against = at (compared w b)
     where
-      at : Compared w b → Side
+      at : Compared w b → Against
       at (before h) = let l = before-less h in lower (less-side l) l (lesser-less l)
       at (equal e) = level (same-side e) e (lesser-same e)
       at (after h) = let l = before-less h in higher (greater-side l) l (lesser-greater l)
-
-  pub side-less : sideOf w b ≡ 1 → less w b ≡ true
-  side-less is = at side
-    where
-      at : Side → less w b ≡ true
-      at (lower s h l) = h
-      at (level s e l) = absurd (omega arith)
-      at (higher s h l) = absurd (omega arith)
-
-  pub side-same : sideOf w b ≡ 0 → w ≡ b
-  side-same is = at side
-    where
-      at : Side → w ≡ b
-      at (lower s h l) = absurd (omega arith)
-      at (level s e l) = e
-      at (higher s h l) = absurd (omega arith)
-
-  pub side-greater : sideOf w b ≡ 2 → less b w ≡ true
-  side-greater is = at side
-    where
-      at : Side → less b w ≡ true
-      at (lower s h l) = absurd (omega arith)
-      at (level s e l) = absurd (omega arith)
-      at (higher s h l) = h
 
 -- the best word once the first k starts are tried; before the first, numbers above all labels
 unfoldable pub bestAfter : Map → ℕ → List ℕ
@@ -124,18 +105,18 @@ bestAfter M zero = replicate (M .dim * M .darts) 65535
 bestAfter M (suc k) = lesser (bestAfter M k) (word M (suc k))
 
 -- how start k + 1 comes out against it
-unfoldable pub sideAt : Map → ℕ → ℕ
+unfoldable pub sideAt : Map → ℕ → Side
 sideAt M k = sideOf (word M (suc k)) (bestAfter M k)
 
 -- the start kept once the first k starts are tried
 unfoldable pub startAfter : Map → ℕ → ℕ
 startAfter M zero = 0
-startAfter M (suc k) = cond (eqb (sideAt M k) 1) (suc k) (startAfter M k)
+startAfter M (suc k) = startedAt (sideAt M k) (suc k) (startAfter M k)
 
 -- the count kept then
 unfoldable pub countAfter : Map → ℕ → ℕ
 countAfter M zero = 0
-countAfter M (suc k) = cond (eqb (sideAt M k) 1) 1 (cond (eqb (sideAt M k) 0) (countAfter M k + 1) (countAfter M k))
+countAfter M (suc k) = countedAt (sideAt M k) (countAfter M k)
 
 module _ (M : Map) where
   pub bestAfter-zero : bestAfter M 0 ≡ replicate (M .dim * M .darts) 65535
@@ -159,28 +140,19 @@ module _ (M : Map) (k : ℕ) where
   unfolding sideAt
   sideAt-is = refl
 
-  pub startAfter-suc : startAfter M (suc k) ≡ cond (eqb (sideAt M k) 1) (suc k) (startAfter M k)
+  pub startAfter-suc : startAfter M (suc k) ≡ startedAt (sideAt M k) (suc k) (startAfter M k)
   unfolding startAfter
   startAfter-suc = refl
 
-  pub countAfter-suc : countAfter M (suc k) ≡ cond (eqb (sideAt M k) 1) 1 (cond (eqb (sideAt M k) 0) (countAfter M k + 1) (countAfter M k))
+  pub countAfter-suc : countAfter M (suc k) ≡ countedAt (sideAt M k) (countAfter M k)
   unfolding countAfter
   countAfter-suc = refl
 
-  startAfter-lower : sideOf (word M (suc k)) (bestAfter M k) ≡ 1 → startAfter M (suc k) ≡ suc k
-  startAfter-lower is = rw (startAfter-suc, sideAt-is, is)
+  startAfter-by : {s : Side} → sideOf (word M (suc k)) (bestAfter M k) ≡ s → startAfter M (suc k) ≡ startedAt s (suc k) (startAfter M k)
+  startAfter-by is = rw (startAfter-suc, sideAt-is, is)
 
-  startAfter-other : (sideOf (word M (suc k)) (bestAfter M k) ≡ 1 → ⊥) → startAfter M (suc k) ≡ startAfter M k
-  startAfter-other ne = rw (startAfter-suc, sideAt-is, ne-eqb _ 1 ne)
-
-  countAfter-lower : sideOf (word M (suc k)) (bestAfter M k) ≡ 1 → countAfter M (suc k) ≡ 1
-  countAfter-lower is = rw (countAfter-suc, sideAt-is, is)
-
-  countAfter-level : sideOf (word M (suc k)) (bestAfter M k) ≡ 0 → countAfter M (suc k) ≡ countAfter M k + 1
-  countAfter-level is = rw (countAfter-suc, sideAt-is, is)
-
-  countAfter-higher : sideOf (word M (suc k)) (bestAfter M k) ≡ 2 → countAfter M (suc k) ≡ countAfter M k
-  countAfter-higher is = rw (countAfter-suc, sideAt-is, is)
+  countAfter-by : {s : Side} → sideOf (word M (suc k)) (bestAfter M k) ≡ s → countAfter M (suc k) ≡ countedAt s (countAfter M k)
+  countAfter-by is = rw (countAfter-suc, sideAt-is, is)
 
 -- a test that no number from 1 to k passes
 count-none : (p : ℕ → Bool) (k : ℕ) → Misses p k → count k p ≡ 0
@@ -204,9 +176,6 @@ unfolding placeOf
 first-place n = omega (arith, zero-mul n)
 
 module _ {M : Map} (a : Accepted M) where
-  few-darts : M .darts ≤ 1020
-  few-darts = omega (arith, a .bounds .table-most, mul-le-mul-right (M .darts) (a .bounds .dim-least), one-mul (M .darts))
-
   some-numbers : 1 ≤ M .dim * M .darts
   some-numbers = omega (arith, a .bounds .darts-least, mul-le-mul-right (M .darts) (a .bounds .dim-least), one-mul (M .darts))
 
@@ -220,7 +189,7 @@ module _ {M : Map} (a : Accepted M) where
         omega (arith, nth-suc (word M d) 0, first, labelling-numbers a d dart .label-high (sew M 1 (nth q 1)))
 
     -- any word is less than the numbers that stand before the first start
-    word-below : less (word M d) (bestAfter M 0) ≡ true
+    pub word-below : less (word M d) (bestAfter M 0) ≡ true
     word-below =
         let size = M .dim * M .darts in
         let long = length-word a d dart in
@@ -228,7 +197,7 @@ module _ {M : Map} (a : Accepted M) where
         let at-first = getD-replicate {A = ℕ} size 0 65535 0 some-numbers in
         rw (bestAfter-zero M)
         (less-at (word M d) (replicate size 65535) 0 (omega (arith, some-numbers)) (omega (arith, some-numbers)) refl
-        (omega (arith, word-first, few-darts)))
+        (omega (arith, word-first, darts-most (a .bounds))))
 
   first-below : less (word M 1) (bestAfter M 0) ≡ true
   first-below = word-below 1 (omega arith, a .bounds .darts-least)
@@ -307,40 +276,38 @@ module _ {M : Map} (a : Accepted M) where
     start-kept : bestAfter M (suc k) ≡ best → (less next best ≡ true → ⊥) → least (suc k) (yields M (bestAfter M (suc k))) ≡ least k (yields M best)
     start-kept is never = rw is (least-kept (yields M best) k (some-yields k (tried-some never)))
 
-    start-step : Side next best → startAfter M k ≡ least k (yields M best) → startAfter M (suc k) ≡ least (suc k) (yields M (bestAfter M (suc k)))
-    start-step (lower s h l) so-far = startAfter-lower M k s ∙ sym (start-new (bestAfter-suc M k ∙ l) h)
+    start-step : Against next best → startAfter M k ≡ least k (yields M best) → startAfter M (suc k) ≡ least (suc k) (yields M (bestAfter M (suc k)))
+    unfolding startedAt
+    start-step (lower s h l) so-far = startAfter-by M k s ∙ sym (start-new (bestAfter-suc M k ∙ l) h)
     start-step (level s e l) so-far =
-        startAfter-other M k (λ z. omega arith)
-        ∙ so-far
-        ∙ sym (start-kept (bestAfter-suc M k ∙ l) (λ h. true-not-false h (same-not-less next best e)))
+        startAfter-by M k s ∙ so-far ∙ sym (start-kept (bestAfter-suc M k ∙ l) (λ h. true-not-false h (same-not-less next best e)))
     start-step (higher s h l) so-far =
-        startAfter-other M k (λ z. omega arith)
-        ∙ so-far
-        ∙ sym (start-kept (bestAfter-suc M k ∙ l) (λ k. true-not-false k (greater-not-less next best h)))
+        startAfter-by M k s ∙ so-far ∙ sym (start-kept (bestAfter-suc M k ∙ l) (λ k. true-not-false k (greater-not-less next best h)))
 
-    count-step : Side next best → countAfter M k ≡ count k (yields M best) → countAfter M (suc k) ≡ count (suc k) (yields M (bestAfter M (suc k)))
-    count-step (lower s h l) so-far = countAfter-lower M k s ∙ sym (count-new (bestAfter-suc M k ∙ l) h)
+    count-step : Against next best → countAfter M k ≡ count k (yields M best) → countAfter M (suc k) ≡ count (suc k) (yields M (bestAfter M (suc k)))
+    unfolding countedAt
+    count-step (lower s h l) so-far = countAfter-by M k s ∙ sym (count-new (bestAfter-suc M k ∙ l) h)
     count-step (level s e l) so-far =
         rw (bestAfter-suc M k ∙ l)
-        (countAfter-level M k s
+        (countAfter-by M k s
         ∙ ap (λ (c : ℕ). c + 1) so-far
         ∙ sym (count-hit (yields M best) k (word-yields M best (suc k) e)))
     count-step (higher s h l) so-far =
         let misses : yields M best (suc k) ≡ false =
         false-of-not-true (yields M best (suc k)) (λ y. greater-not-same next best h (yields-word M best (suc k) y)) in
-        rw (bestAfter-suc M k ∙ l) (countAfter-higher M k s ∙ so-far ∙ sym (count-miss (yields M best) k misses))
+        rw (bestAfter-suc M k ∙ l) (countAfter-by M k s ∙ so-far ∙ sym (count-miss (yields M best) k misses))
 
   -- the start kept is the least that yields the best word
   pub startAfter-least : (k : ℕ) → startAfter M k ≡ least k (yields M (bestAfter M k))
   unfolding least
   startAfter-least zero = startAfter-zero M
-  startAfter-least (suc k) = start-step k (side (word M (suc k)) (bestAfter M k)) (startAfter-least k)
+  startAfter-least (suc k) = start-step k (against (word M (suc k)) (bestAfter M k)) (startAfter-least k)
 
   -- the count kept is how many yield it
   pub countAfter-count : (k : ℕ) → countAfter M k ≡ count k (yields M (bestAfter M k))
   unfolding count
   countAfter-count zero = countAfter-zero M
-  countAfter-count (suc k) = count-step k (side (word M (suc k)) (bestAfter M k)) (countAfter-count k)
+  countAfter-count (suc k) = count-step k (against (word M (suc k)) (bestAfter M k)) (countAfter-count k)
 
   pub countAfter-le : (k : ℕ) → countAfter M k ≤ k
   countAfter-le k = omega (arith, countAfter-count k, count-le k (yields M (bestAfter M k)))

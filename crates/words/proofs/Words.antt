@@ -11,10 +11,11 @@ use native.Mathlib.Nat.{mul-suc, suc-mul, zero-mul, mul-zero}
 use lib.Seq.{getD-append-add}
 use lib.ListN.{length, length-append, length-map}
 use Rattle.maps.specs.Least.{nth, upTo}
-use Rattle.maps.specs.Map.{Map, IsDart, sew, placeOf}
+use Rattle.maps.specs.Map.{Map, IsDart, sew}
+use Rattle.maps.specs.Given.{placeOf}
 use Rattle.maps.specs.Accepted.{Accepted}
 use Rattle.maps.proofs.Least.{nth-append, length-upTo, nth-map-upTo}
-use Rattle.labels.specs.Labelling.{labelIn, labelling}
+use Rattle.labels.specs.Queue.{labelIn, labelling}
 use Rattle.labels.proofs.Queue.{nth-one, nth-cons-suc}
 use Rattle.labels.proofs.Reached.{labelling-numbers}
 use Rattle.words.specs.Words.{row, wordOf, word}

@@ -1,5 +1,7 @@
--- Words, the signature, and what the signature call answers. Read in this order.
+-- Words, the signature, and what the calls that run starts answer. Read in this order.
 pub mod Words
-pub mod Theorems
 pub mod Sign
-pub mod Racing
+pub mod Theorems
+pub mod Match
+pub mod MatchTheorems
+pub mod Inside

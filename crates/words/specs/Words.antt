@@ -4,14 +4,15 @@
 --     signature M       the least word over all starts
 --     start M           the least start dart that yields it
 --     symmetries M      how many starts yield it
+--     byLabels          the darts of a second map that have the same labels
 -- Assumes nothing.
 use Prim.Native.Nat.{ℕ, zero, suc}
 use mathlib.Core.Bool.{Bool, true, false, cond, _&&_, _||_}
 use mathlib.Core.List.{List, [], _∷_, map, flatMap}
 use lib.Dec.{eqb, ltb}
-use Rattle.maps.specs.Least.{upTo, least, count}
+use Rattle.maps.specs.Least.{nth, upTo, least, count}
 use Rattle.maps.specs.Map.{Map, sew}
-use Rattle.labels.specs.Labelling.{labelIn, labelling}
+use Rattle.labels.specs.Queue.{labelIn, labelling}
 
 -- the labels of β1 .. βn of one dart, by the queue q
 unfoldable pub row : Map → List ℕ → ℕ → List ℕ
@@ -65,3 +66,7 @@ unfoldable pub symmetries : Map → ℕ
 symmetries M =
     let w = signature M in
     count (M .darts) (yields M w)
+
+-- for each dart 1 to m of M the dart of M′ that has from d′ the label that it has from d
+unfoldable pub byLabels : Map → ℕ → Map → ℕ → List ℕ
+byLabels M d M′ d′ = map (λ e. nth (labelling M′ d′) (labelIn (labelling M d) e)) (upTo (M .darts))

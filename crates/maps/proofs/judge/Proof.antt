@@ -1,132 +1,91 @@
 -- `maps::judge` meets its contract: numbers 1 to 4 by their tests, and then the entries. Assumes nothing.
-use mathlib.Core.Path.{_≡_, sym, _∙_}
+use Prim.Native.Nat.{ℕ, _≤_}
+use mathlib.Core.Path.{_≡_, sym, ap, _∙_}
+use mathlib.Core.Bool.{cond}
+use mathlib.Core.List.{List}
 use borrow.Author.Needs.{needs}
 use native.Mathlib.Omega.{arith}
 use native.Mathlib.Nat.{mul-le-mul}
-use Rattle.maps.proofs.Answers.{as-refused, sewing-low, sewing-high, sewing-none, sewing-many, sewing-most, sewing-long, sewing-short, sewing-entries}
+use lib.ListN.{replicate}
+use Rattle.maps.specs.Given.{Given, lent}
+use Rattle.maps.specs.Verdict.{Verdict, accepted, refused}
+use Rattle.maps.specs.Rules.{judgeShape, judgeSewing}
+use Rattle.maps.specs.Answer.{JudgedAs}
+use Rattle.maps.specs.declared.Output.{Output}
+use Rattle.maps.specs.declared.Judged.{Judged}
+use Rattle.maps.specs.declared.Judged.the-variants.{Refused}
+use Rattle.maps.proofs.Rules.{shape-low, shape-high, shape-none, shape-many, shape-most, shape-long, shape-passed, sewing-shape, sewing-short, sewing-entries}
+use Rattle.maps.proofs.Answer.{as-refused, as-same}
 use Rattle.maps.proofs.judge.Statement.{statement}
 use Rattle.maps.proofs.judge.Tie as tie
 
-refused-requires : tie.Need-refused-requires
-refused-requires c κs = search needs
+-- the shape is refused with k
+misshapen : (o : Output) (k : ℕ) → 1 ≤ k → {g : Given} {r : Judged} {held : List ℕ} → judgeShape g ≡ refused k 0 → (r ≡ Refused k 0) × (held ≡ replicate 1020 0) → JudgedAs (judgeSewing o) g r held
+misshapen o k low {g} is answer = as-refused k 0 low (sewing-shape o g k low is) (answer .0) (answer .1)
+
+-- past 1 to 3 the table is in shape
+shape-here : (c : tie.Else6) →
+    let a = c .before .before .before .before .before .before .before .args in
+    judgeShape (lent (a .n) (a .m) (a .table .now)) ≡ accepted
+shape-here c = shape-passed _ (omega arith) (omega arith) (omega arith) (omega arith) (omega arith)
 
 returns : tie.Need-returns
-returns c =
-    as-refused _ _ _ 1 0 (omega arith) (sewing-low _ _ _ _ (c .before .if1 .taken)) (c .refused .ensures .0) (c .refused .ensures .1)
-
-refused-requires-2 : tie.Need-refused-requires-2
-refused-requires-2 c κs = search needs
+returns c = misshapen _ 1 (omega arith) (shape-low _ (omega arith)) (c .refuse .ensures)
 
 returns-2 : tie.Need-returns-2
-returns-2 c =
-    as-refused _ _ _ 1 0 (omega arith) (sewing-high _ _ _ _ (c .before .if2 .taken)) (c .refused2 .ensures .0) (c .refused2 .ensures .1)
-
-refused-requires-3 : tie.Need-refused-requires-3
-refused-requires-3 c κs = search needs
+returns-2 c = misshapen _ 1 (omega arith) (shape-high _ (omega arith)) (c .refuse2 .ensures)
 
 returns-3 : tie.Need-returns-3
-returns-3 c =
-    let at-test = c .before in
-    as-refused _ _ _ 2 0 (omega arith)
-    (sewing-none _ _ _ _ (at-test .before .before .if1 .left) (at-test .before .if2 .left) (at-test .if3 .taken))
-    (c .refused3 .ensures .0)
-    (c .refused3 .ensures .1)
-
-refused-requires-4 : tie.Need-refused-requires-4
-refused-requires-4 c κs = search needs
+returns-3 c = misshapen _ 2 (omega arith) (shape-none _ (omega arith) (omega arith) (omega arith)) (c .refuse3 .ensures)
 
 returns-4 : tie.Need-returns-4
-returns-4 c =
-    let at-test = c .before in
-    let some = at-test .before in
-    as-refused _ _ _ 2 0 (omega arith)
-    (sewing-many _ _ _ _ (some .before .before .if1 .left) (some .before .if2 .left) (some .if3 .left) (at-test .if4 .taken))
-    (c .refused4 .ensures .0)
-    (c .refused4 .ensures .1)
+returns-4 c = misshapen _ 2 (omega arith) (shape-many _ (omega arith) (omega arith) (omega arith) (omega arith)) (c .refuse4 .ensures)
 
 mul-if5 : tie.Need-mul-if5
 mul-if5 c = omega (arith, mul-le-mul (c .before .before .if2 .left) (c .if4 .left))
 
-refused-requires-5 : tie.Need-refused-requires-5
-refused-requires-5 c κs = search needs
-
 returns-5 : tie.Need-returns-5
-returns-5 c =
-    let at-test = c .before in
-    let some = at-test .before .before in
-    as-refused _ _ _ 2 0 (omega arith)
-    (sewing-most _ _ _ _ (some .before .before .if1 .left) (some .before .if2 .left) (some .if3 .left) (at-test .if5 .taken))
-    (c .refused5 .ensures .0)
-    (c .refused5 .ensures .1)
-
-mul-if6 : tie.Need-mul-if6
-mul-if6 c = search needs
-
-refused-requires-6 : tie.Need-refused-requires-6
-refused-requires-6 c κs = search needs
+returns-5 c = misshapen _ 2 (omega arith) (shape-most _ (omega arith) (omega arith) (omega arith) (omega arith)) (c .refuse5 .ensures)
 
 returns-6 : tie.Need-returns-6
 returns-6 c =
-    let at-test = c .before in
-    let most = at-test .before in
-    let some = most .before .before in
-    as-refused _ _ _ 3 0 (omega arith)
-    (sewing-long _ _ _ _ (some .before .before .if1 .left) (some .before .if2 .left) (some .if3 .left) (most .if5 .left) (at-test .if6 .taken))
-    (c .refused6 .ensures .0)
-    (c .refused6 .ensures .1)
-
-has-room-requires : tie.Need-has-room-requires
-has-room-requires c κs = search needs
+    misshapen _ 3 (omega arith) (shape-long _ (omega arith) (omega arith) (omega arith) (omega arith) (c .before .before .if6 .taken)) (c .refuse6 .ensures)
 
 judge-entries-requires : tie.Need-judge-entries-requires
-judge-entries-requires c κs = search needs
+judge-entries-requires c κs = record { bounds = omega arith; long = omega arith }
 
 returns-7 : tie.Need-returns-7
 returns-7 c =
-    let at-test = c .before in
-    let long = at-test .before .before in
-    let most = long .before in
-    let some = most .before .before in
-    let room = sym (at-test .before .has-room .ensures) ∙ at-test .if7 .taken in
-    rw
-    (sewing-entries _ _ _ _ (some .before .before .if1 .left) (some .before .if2 .left) (some .if3 .left) (most .if5 .left) (long .if6 .left) room)
-    (c .judge-entries .ensures)
-
-refused-requires-7 : tie.Need-refused-requires-7
-refused-requires-7 c κs = search needs
+    let has-room = c .before .before .before in
+    let room = sym (has-room .has-room .ensures) ∙ c .before .before .if7 .taken in
+    as-same (sewing-entries _ _ (shape-here (has-room .before)) room) (c .judge-entries .ensures)
 
 returns-8 : tie.Need-returns-8
 returns-8 c =
-    let at-test = c .before in
-    let long = at-test .before .before in
-    let most = long .before in
-    let some = most .before .before in
-    let room = sym (at-test .before .has-room .ensures) ∙ at-test .if7 .left in
-    as-refused _ _ _ 4 0 (omega arith)
-    (sewing-short _ _ _ _ (some .before .before .if1 .left) (some .before .if2 .left) (some .if3 .left) (most .if5 .left) (long .if6 .left) room)
-    (c .refused7 .ensures .0)
-    (c .refused7 .ensures .1)
+    let has-room = c .before .before .before in
+    let room = sym (has-room .has-room .ensures) ∙ c .before .before .if7 .left in
+    as-refused 4 0 (omega arith) (sewing-short _ _ (shape-here (has-room .before)) room) (c .refuse7 .ensures .0) (c .refuse7 .ensures .1)
 
 pub judge-spec : {M : Type 1} → statement M
 judge-spec =
     tie.close
     (tie.spec
-    refused-requires
+    (λ c κs. search needs)
     returns
-    refused-requires-2
+    (λ c κs. search needs)
     returns-2
-    refused-requires-3
+    (λ c κs. search needs)
     returns-3
-    refused-requires-4
+    (λ c κs. search needs)
     returns-4
     mul-if5
-    refused-requires-5
+    (λ c κs. search needs)
     returns-5
-    mul-if6
-    refused-requires-6
+    (λ c. search needs)
+    (λ c κs. search needs)
     returns-6
-    has-room-requires
+    (λ c κs. search needs)
     judge-entries-requires
     returns-7
-    refused-requires-7
+    (λ c κs. search needs)
     returns-8)

@@ -7,14 +7,8 @@ use Rattle.maps.proofs.not_answered.Tie as tie
 returns : tie.Need-returns
 returns c = unanswered-first _ _ _ (c .if1 .taken)
 
-sewn-requires : tie.Need-sewn-requires
-sewn-requires c κs = search needs
-
 returns-2 : tie.Need-returns-2
 returns-2 c = unanswered-unsewn _ _ _ (c .before .before .if1 .left) _ (c .before .sewn .ensures) (c .if2 .taken)
-
-sewn-requires-2 : tie.Need-sewn-requires-2
-sewn-requires-2 c κs = search needs
 
 returns-3 : tie.Need-returns-3
 returns-3 c =
@@ -26,7 +20,7 @@ not-answered-spec =
     tie.close
     (tie.spec
     returns
-    sewn-requires
+    (λ c κs. search needs)
     returns-2
-    sewn-requires-2
+    (λ c κs. search needs)
     returns-3)

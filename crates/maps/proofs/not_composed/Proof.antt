@@ -4,7 +4,8 @@ use mathlib.Core.Path.{_≡_, _∙_, sym}
 use mathlib.Core.Bool.{false}
 use borrow.Author.Needs.{needs}
 use native.Mathlib.Omega.{arith}
-use Rattle.maps.specs.Map.{Map, tableMap}
+use Rattle.maps.specs.Map.{Map}
+use Rattle.maps.specs.Given.{lent, mapOf}
 use Rattle.maps.specs.Rules.{parted, composesWrong}
 use Rattle.maps.proofs.Least.{Passed, passed-start, passed-turn, passed-misses, misses-some, passes-some}
 use Rattle.maps.proofs.not_composed.Statement.{statement}
@@ -17,7 +18,7 @@ record Composing (M : Map) (d j i : ℕ) : Type 0 where
   so-far : Passed (λ k. parted M k j d) i
 
 abbrev Inv-loop : tie.InvT-loop
-Inv-loop n m table d j i₀ i = Composing (tableMap n m table) d j i
+Inv-loop n m table d j i₀ i = Composing (mapOf (lent n m table)) d j i
 
 abbrev μ-loop : tie.MeasureT-loop
 μ-loop n m table d j i₀ i = j - i
@@ -25,25 +26,16 @@ abbrev μ-loop : tie.MeasureT-loop
 loop-holds : tie.Need-loop-holds Inv-loop μ-loop
 loop-holds c = record { low = omega arith; high = omega arith; so-far = passed-start _ }
 
-add-loop : tie.Need-add-loop Inv-loop μ-loop
-add-loop c = omega arith
-
 parts-requires : tie.Need-parts-requires Inv-loop μ-loop
 parts-requires c κs =
     let start = c .before .before .before in
-    (start .pre .0, omega arith, omega arith, omega arith, omega arith)
+    (record { shaped = start .pre .shaped; low = omega arith; high = omega arith }, start .pre)
 
 returns : tie.Need-returns Inv-loop μ-loop
 unfolding composesWrong
 returns c =
     let fails = sym (c .before .parts .ensures) ∙ c .if1 .taken in
     sym (passes-some _ _ (c .before .before .before .loop .i) (omega arith) (omega arith) fails)
-
-add-i : tie.Need-add-i Inv-loop μ-loop
-add-i c = omega arith
-
-loop-less : tie.Need-loop-less Inv-loop μ-loop
-loop-less c = omega arith
 
 loop-again : tie.Need-loop-again Inv-loop μ-loop
 loop-again c =
@@ -62,10 +54,10 @@ not-composed-spec =
     Inv-loop
     μ-loop
     loop-holds
-    add-loop
+    (λ c. omega arith)
     parts-requires
     returns
-    add-i
-    loop-less
+    (λ c. omega arith)
+    (λ c. omega arith)
     loop-again
     returns-2)

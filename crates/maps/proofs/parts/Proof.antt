@@ -4,22 +4,10 @@ use borrow.Author.Needs.{needs}
 use Rattle.maps.proofs.parts.Statement.{statement}
 use Rattle.maps.proofs.parts.Tie as tie
 
-sewn-requires : tie.Need-sewn-requires
-sewn-requires c κs = search needs
-
-sewn-requires-2 : tie.Need-sewn-requires-2
-sewn-requires-2 c κs = search needs
-
 returns : tie.Need-returns
 returns c =
     let before-test = c .before in
     parted-unsewn _ _ _ _ _ _ (before-test .before .sewn .ensures) (before-test .sewn2 .ensures) (c .if1 .taken)
-
-sewn-requires-3 : tie.Need-sewn-requires-3
-sewn-requires-3 c κs = search needs
-
-sewn-requires-4 : tie.Need-sewn-requires-4
-sewn-requires-4 c κs = search needs
 
 returns-2 : tie.Need-returns-2
 returns-2 c =
@@ -29,4 +17,4 @@ returns-2 c =
 pub parts-spec : {M : Type 1} → statement M
 parts-spec =
     tie.close
-    (tie.spec sewn-requires sewn-requires-2 returns sewn-requires-3 sewn-requires-4 returns-2)
+    (tie.spec (λ c κs. search needs) (λ c κs. search needs) returns (λ c κs. search needs) (λ c κs. search needs) returns-2)

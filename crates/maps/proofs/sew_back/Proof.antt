@@ -10,13 +10,15 @@ use native.Mathlib.Omega.{arith}
 use borrow.Author.Tests.{lt-ltb, le-ltb}
 use lib.Dec.{ltb}
 use lib.ListN.{getD, set}
-use Rattle.maps.specs.Map.{Map, IsDart, placeOf, sew, tableMap}
+use Rattle.maps.specs.Map.{Map, IsDart, sew}
+use Rattle.maps.specs.Given.{lent, placeOf, mapOf}
 use Rattle.maps.specs.Rules.{givenBefore, wrongEntry}
-use Rattle.maps.specs.Judged.{Shaped, BackAs}
+use Rattle.maps.specs.Inside.{BackAs}
 use Rattle.maps.proofs.Least.{Passed, passed-start, passed-turn}
-use Rattle.maps.proofs.Table.{few-darts, in-table}
-use Rattle.maps.proofs.Entries.{clashRule, clash-entry, clash-none}
-use Rattle.maps.proofs.Backs.{Backs, backs-start, backs-unsewn, backs-given, backs-whole, clash-sewn, clash-unsewn}
+use Rattle.maps.proofs.Accepted.{darts-most}
+use Rattle.maps.proofs.Given.{in-table}
+use Rattle.maps.proofs.Rules.{clash-entry, clash-none}
+use Rattle.maps.proofs.Answer.{Backs, backs-start, backs-unsewn, backs-given, backs-whole, clash-sewn, clash-unsewn}
 use Rattle.maps.proofs.sew_back.Statement.{statement}
 use Rattle.maps.proofs.sew_back.Tie as tie
 
@@ -64,119 +66,83 @@ module _ {M : Map} {d : ℕ} {back : List ℕ} (s : Sewing M (M .darts) d back) 
         }
 
 abbrev Inv-loop : tie.InvT-loop
-Inv-loop n m table back₀ d₀ back d = Sewing (tableMap n m table) m d back
+Inv-loop n m table back₀ d₀ back d = Sewing (mapOf (lent n m table)) m d back
 
 abbrev μ-loop : tie.MeasureT-loop
 μ-loop n m table back₀ d₀ back d = m + 1 - d
 
--- where the next dart is sewn, what it is sewn to has a place in the array
-sewn-inside : (c : tie.Then1 Inv-loop μ-loop) → c .before .sewn .result ≤ 1020
-unfolding tableMap
+-- the places of this proof
+abbrev at-loop : tie.After-sewn Inv-loop μ-loop → tie.At-loop Inv-loop μ-loop
+at-loop c = c .before .before
+
+abbrev start : tie.At-loop Inv-loop μ-loop → tie.Start Inv-loop μ-loop
+start c = c .before .before
+
+-- there are few darts
+few : (c : tie.At-loop Inv-loop μ-loop) → start c .args .m ≤ 1020
+few c = darts-most (start c .pre .shaped .bounds)
+
+-- what the next dart is sewn to has a place in the array
+sewn-inside : (c : tie.After-sewn Inv-loop μ-loop) → c .sewn .result ≤ 1020
+unfolding mapOf
 sewn-inside c =
-    let start = c .before .before .before .before .before in
-    let bound = start .pre .1 1 (c .before .before .before .loop .d) in
-    omega (arith, few-darts (start .pre .0), c .before .sewn .ensures, bound)
+    let bound = start (at-loop c) .pre .within 1 (at-loop c .loop .d) in
+    omega (arith, few (at-loop c), c .sewn .ensures, bound)
 
 -- the first entry of the dart is inside the table
-row-inside : (c : tie.Then2 Inv-loop μ-loop) →
-    let at-loop = c .before .before .before .before .before in
-    (at-loop .loop .d - 1) * at-loop .before .before .args .n < 1020
+row-inside : (c : tie.After-sewn Inv-loop μ-loop) → (at-loop c .loop .d - 1) * start (at-loop c) .args .n < 1020
 row-inside c =
-    let at-loop = c .before .before .before .before .before in
-    let shaped = at-loop .before .before .pre .0 in
-    omega (arith, in-table shaped (at-loop .loop .d) 1 (omega arith) (omega arith) (omega arith) (shaped .dim-least), shaped .long)
+    let shaped = start (at-loop c) .pre .shaped in
+    omega (arith, in-table shaped (at-loop c .loop .d) 1 (omega arith) (omega arith) (omega arith) (shaped .bounds .dim-least), shaped .long)
 
 loop-holds : tie.Need-loop-holds Inv-loop μ-loop
 loop-holds c =
     record {
       low = omega arith;
       high = omega arith;
-      backs = rw (c .before .pre .2) (backs-start _);
+      backs = rw (c .before .pre .zeros) (backs-start _);
       so-far = passed-start _;
     }
 
 sewn-requires : tie.Need-sewn-requires Inv-loop μ-loop
-sewn-requires c κs = (c .before .before .before .pre .0, omega arith, omega arith)
-
-sub-if2 : tie.Need-sub-if2 Inv-loop μ-loop
-sub-if2 c = omega arith
-
-mul-if2 : tie.Need-mul-if2 Inv-loop μ-loop
-mul-if2 c = omega (arith, sewn-inside c)
-
-element-copy-out-if2 : tie.Need-element-copy-out-if2 Inv-loop μ-loop
-element-copy-out-if2 c = omega (arith, sewn-inside c)
-
-sub-result : tie.Need-sub-result Inv-loop μ-loop
-sub-result c = omega arith
-
-mul-result : tie.Need-mul-result Inv-loop μ-loop
-mul-result c = omega (arith, row-inside c)
-
-add-result : tie.Need-add-result Inv-loop μ-loop
-add-result c = omega (arith, row-inside c)
+sewn-requires c κs =
+    let shaped = start (c .before) .pre .shaped in
+    record { shaped = shaped; low = omega arith; high = shaped .bounds .dim-least }
 
 returns : tie.Need-returns Inv-loop μ-loop
-unfolding tableMap placeOf
+unfolding mapOf placeOf
 returns c =
     let sewn = c .before .before .before in
-    let at-loop = sewn .before .before in
-    let shaped = at-loop .before .before .pre .0 in
+    let inv = at-loop sewn .loop .inv in
+    let dim = start (at-loop sewn) .pre .shaped .bounds .dim-least in
     let inside = sewn .before .loop-test .taken in
-    let stands = lt-ltb 0 (getD (at-loop .loop .back) (sewn .sewn .result - 1) 0) (pos-of-ne-zero (c .if2 .taken)) in
-    let clash =
-    clash-here (at-loop .loop .inv) (shaped .dim-least) inside (sewn .sewn .result) (sewn .sewn .ensures)
-    (omega arith)
-    (sewn-inside (c .before .before))
-    ∙ stands in
+    let stands = lt-ltb 0 (getD (at-loop sewn .loop .back) (sewn .sewn .result - 1) 0) (pos-of-ne-zero (c .if2 .taken)) in
+    let clash = clash-here inv dim inside (sewn .sewn .result) (sewn .sewn .ensures) (omega arith) (sewn-inside sewn) ∙ stands in
     record {
-      wrong = sym (clash-entry _ (shaped .dim-least) _ (at-loop .loop .inv .so-far) (at-loop .loop .inv .low) inside clash);
+      wrong = sym (clash-entry _ dim _ (inv .so-far) (inv .low) inside clash);
       whole = λ none. absurd (omega arith);
     }
 
-cast-back : tie.Need-cast-back Inv-loop μ-loop
-cast-back c = omega (arith, few-darts (c .before .before .before .before .before .before .before .pre .0))
-
-sub-back : tie.Need-sub-back Inv-loop μ-loop
-sub-back c = omega arith
-
-mul-back : tie.Need-mul-back Inv-loop μ-loop
-mul-back c = omega (arith, sewn-inside (c .before .before))
-
-element-write-back : tie.Need-element-write-back Inv-loop μ-loop
-element-write-back c = omega (arith, sewn-inside (c .before .before))
-
-add-d : tie.Need-add-d Inv-loop μ-loop
-add-d c = omega (arith, few-darts (c .before .before .before .before .before .pre .0))
-
-loop-less : tie.Need-loop-less Inv-loop μ-loop
-loop-less c = omega arith
-
 loop-again : tie.Need-loop-again Inv-loop μ-loop
-unfolding tableMap
+unfolding mapOf
 loop-again c =
     let sewn = c .before in
-    let at-loop = sewn .before .before in
-    let shaped = at-loop .before .before .pre .0 in
+    let inv = at-loop sewn .loop .inv in
+    let dim = start (at-loop sewn) .pre .shaped .bounds .dim-least in
     let inside = sewn .before .loop-test .taken in
     let there = sewn .sewn .ensures in
     ⊎-elim
-    (λ w.
-    rw (w .3)
-    (sewing-given (at-loop .loop .inv) (shaped .dim-least) inside (sewn .sewn .result) there
-    (pos-of-ne-zero (w .0 .taken))
-    (sewn-inside (record { before = c .before; if1 = w .0 }))
-    (w .2 .left)))
-    (λ w. rw (w .1) (sewing-unsewn (at-loop .loop .inv) (shaped .dim-least) inside (sewn .sewn .result) there (w .0 .left)))
+    (λ w. rw (w .3) (sewing-given inv dim inside (sewn .sewn .result) there (pos-of-ne-zero (w .0 .taken)) (sewn-inside sewn) (w .2 .left)))
+    (λ w. rw (w .1) (sewing-unsewn inv dim inside (sewn .sewn .result) there (w .0 .left)))
     (c .if1 .came)
 
 returns-2 : tie.Need-returns-2 Inv-loop μ-loop
-unfolding tableMap
+unfolding mapOf
 returns-2 c =
     let inv = c .before .loop .inv in
-    let all : c .before .loop .d - 1 ≡ c .before .before .before .args .m = omega (arith, inv .low, inv .high, c .loop-test .left) in
+    let all : c .before .loop .d - 1 ≡ start (c .before) .args .m = omega (arith, inv .low, inv .high, c .loop-test .left) in
     record {
-      wrong = sym (clash-none _ (c .before .before .before .pre .0 .dim-least) _ (inv .so-far) (c .loop-test .left));
+      wrong = sym (clash-none _ (start (c .before) .pre .shaped .bounds .dim-least) _ (inv .so-far) (c .loop-test .left));
       whole = λ zero. backs-whole _ _ (rw all at (inv .backs));
     }
 
@@ -188,18 +154,18 @@ sew-back-spec =
     μ-loop
     loop-holds
     sewn-requires
-    sub-if2
-    mul-if2
-    element-copy-out-if2
-    sub-result
-    mul-result
-    add-result
+    (λ c. omega arith)
+    (λ c. omega (arith, sewn-inside (c .before)))
+    (λ c. omega (arith, sewn-inside (c .before)))
+    (λ c. omega arith)
+    (λ c. omega (arith, row-inside (c .before .before .before)))
+    (λ c. omega (arith, row-inside (c .before .before .before)))
     returns
-    cast-back
-    sub-back
-    mul-back
-    element-write-back
-    add-d
-    loop-less
+    (λ c. omega (arith, few (at-loop (c .before .before .before))))
+    (λ c. omega arith)
+    (λ c. omega (arith, sewn-inside (c .before .before .before)))
+    (λ c. omega (arith, sewn-inside (c .before .before .before)))
+    (λ c. omega (arith, few (at-loop (c .before))))
+    (λ c. omega arith)
     loop-again
     returns-2)

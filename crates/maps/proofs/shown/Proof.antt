@@ -8,12 +8,6 @@ use Rattle.maps.specs.Rules.{dartAt}
 use Rattle.maps.proofs.shown.Statement.{statement}
 use Rattle.maps.proofs.shown.Tie as tie
 
-sub-result : tie.Need-sub-result
-sub-result c = search needs
-
-div-result : tie.Need-div-result
-div-result c = search needs
-
 add-result : tie.Need-add-result
 add-result c = omega (arith, div-le-self (c .args .p - 1) (c .args .n))
 
@@ -22,4 +16,4 @@ unfolding dartAt
 returns c = refl
 
 pub shown-spec : {M : Type 1} → statement M
-shown-spec = tie.close (tie.spec sub-result div-result add-result returns)
+shown-spec = tie.close (tie.spec (λ c. search needs) (λ c. search needs) add-result returns)

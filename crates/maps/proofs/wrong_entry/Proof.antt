@@ -5,11 +5,12 @@ use mathlib.Core.Path.{_≡_, _∙_, ap, sym}
 use mathlib.Core.Bool.{Bool, true, false}
 use native.Mathlib.Omega.{arith}
 use lib.ListN.{length}
-use Rattle.maps.specs.Map.{Map, placeOf, tableMap}
+use Rattle.maps.specs.Map.{Map}
 use Rattle.maps.specs.Rules.{Rule, dartAt, sewingAt, wrongEntry}
-use Rattle.maps.specs.Judged.{ruleOf}
+use Rattle.maps.specs.Given.{lent, placeOf, mapOf}
+use Rattle.maps.specs.Inside.{ruleOf}
 use Rattle.maps.proofs.Least.{Passed, passed-start, passed-turn, passed-misses, passed-found, least-is, none-least}
-use Rattle.maps.proofs.Entries.{dartAt-placeOf, sewingAt-placeOf, place-next, place-row}
+use Rattle.maps.proofs.Rules.{dartAt-placeOf, sewingAt-placeOf, place-next, place-row}
 use Rattle.maps.proofs.wrong_entry.Statement.{statement}
 use Rattle.maps.proofs.wrong_entry.Tie as tie
 
@@ -35,7 +36,7 @@ here {n = n} {p = p} {d = d} {i = i} s b is =
     cc
 
 abbrev Inv-loop : tie.InvT-loop
-Inv-loop law n m table p₀ d₀ i₀ p d i = Seeking (tableMap n m table) n (ruleOf law) p d i
+Inv-loop law n m table p₀ d₀ i₀ p d i = Seeking (mapOf (lent n m table)) n (ruleOf law) p d i
 
 abbrev μ-loop : tie.MeasureT-loop
 μ-loop law n m table p₀ d₀ i₀ p d i = length table + 1 - p
@@ -48,23 +49,14 @@ loop-holds c =
 breaks-requires : tie.Need-breaks-requires Inv-loop μ-loop
 breaks-requires c κs =
     let at-loop = c .before in
-    (at-loop .before .before .pre, at-loop .loop .inv .low, at-loop .loop .inv .high)
+    record { shaped = at-loop .before .before .pre; low = at-loop .loop .inv .low; high = at-loop .loop .inv .high }
 
 returns : tie.Need-returns Inv-loop μ-loop
-unfolding wrongEntry tableMap
+unfolding wrongEntry mapOf
 returns c =
     let inv = c .before .before .before .loop .inv in
     let hit = here inv true (sym (c .if1 .taken) ∙ c .before .breaks .ensures) in
     sym (least-is _ _ (passed-found _ (inv .so-far) (omega arith) (omega arith) hit))
-
-add-p : tie.Need-add-p Inv-loop μ-loop
-add-p c = omega arith
-
-add-i : tie.Need-add-i Inv-loop μ-loop
-add-i c = omega arith
-
-loop-less : tie.Need-loop-less Inv-loop μ-loop
-loop-less c = omega arith
 
 loop-again : tie.Need-loop-again Inv-loop μ-loop
 loop-again c =
@@ -78,12 +70,6 @@ loop-again c =
       few = omega arith;
       so-far = passed-turn _ (inv .so-far) miss;
     }
-
-add-d : tie.Need-add-d Inv-loop μ-loop
-add-d c = omega arith
-
-loop-less-2 : tie.Need-loop-less-2 Inv-loop μ-loop
-loop-less-2 c = omega arith
 
 loop-again-2 : tie.Need-loop-again-2 Inv-loop μ-loop
 loop-again-2 c =
@@ -99,7 +85,7 @@ loop-again-2 c =
     }
 
 returns-2 : tie.Need-returns-2 Inv-loop μ-loop
-unfolding wrongEntry tableMap
+unfolding wrongEntry mapOf
 returns-2 c = sym (none-least _ _ (passed-misses _ (c .before .loop .inv .so-far) (omega arith)))
 
 pub wrong-entry-spec : {M : Type 1} → statement M
@@ -111,11 +97,11 @@ wrong-entry-spec =
     loop-holds
     breaks-requires
     returns
-    add-p
-    add-i
-    loop-less
+    (λ c. omega arith)
+    (λ c. omega arith)
+    (λ c. omega arith)
     loop-again
-    add-d
-    loop-less-2
+    (λ c. omega arith)
+    (λ c. omega arith)
     loop-again-2
     returns-2)

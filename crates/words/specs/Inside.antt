@@ -1,0 +1,133 @@
+-- What `src/` keeps while a start is tried against the word held, tied to words (01: "A start is given up at the first number
+-- that exceeds the best word so far"). For the functions inside: no public contract cites this file.
+--     sideOf w b                  how the word w comes out against the word b
+--     sideAfter, leavesAt         the same, one number further, and whether the start is then left
+--     Met                         what meeting a dart leaves, and its label
+--     Weighs, Weighed             a number may be judged, and what judging it leaves in the array of the word held
+--     Ready                       a start may be tried
+--     Raced, Tried                what running a start leaves, before and after its labels are forgotten
+--     startedAt, countedAt        the start and the count kept, by how the last start came out
+--     Starting, Signs             the signature's run may start, and has come to its end
+--     Copies, Copied              numbers may be copied to an output, and are
+-- Assumes nothing.
+use Prim.Native.Nat.{ℕ, _+_, _*_, _≤_, _<_}
+use mathlib.Core.Path.{_≡_}
+use mathlib.Core.Bool.{Bool, true, false, cond, not, _&&_}
+use mathlib.Core.List.{List, _++_}
+use lib.Dec.{ltb}
+use lib.ListN.{length, getD, set, take, drop, replicate}
+use Rattle.maps.specs.Map.{Map, IsDart}
+use Rattle.maps.specs.Accepted.{Accepted}
+use Rattle.maps.specs.Given.{Given, mapOf, Shaped}
+use Rattle.maps.specs.Answer.{backsOf}
+use Rattle.labels.specs.Queue.{labelIn, visit, labelling}
+use Rattle.labels.specs.Inside.{DartsOnce, Holds}
+use Rattle.words.specs.Words.{word, same, less, lesser, signature, start, symmetries}
+use Rattle.words.specs.Sign.{over}
+use Rattle.words.specs.declared.engine.Side.{Side}
+use Rattle.words.specs.declared.engine.Side.the-variants.{Less, Same, Greater}
+use Rattle.words.specs.declared.engine.Labelling.{Labelling}
+use Rattle.words.specs.declared.engine.Course.{Course}
+use Rattle.words.specs.declared.least_word.Signing.{Signing}
+
+-- how the word w comes out against the word b
+unfoldable pub sideOf : List ℕ → List ℕ → Side
+sideOf w b = cond (less w b) Less (cond (same w b) Same Greater)
+
+-- a start meets the number x where the word held has y: what is decided stays so
+unfoldable pub sideAfter : Side → ℕ → ℕ → Side
+sideAfter Less x y = Less
+sideAfter Same x y = cond (ltb x y) Less (cond (ltb y x) Greater Same)
+sideAfter Greater x y = Greater
+
+-- a start is left where it is greater, and against a firm word where it is less
+unfoldable pub leavesAt : Bool → Side → Bool
+leavesAt firm Less = firm
+leavesAt firm Same = false
+leavesAt firm Greater = true
+
+unfoldable pub isLess : Side → Bool
+isLess Less = true
+isLess Same = false
+isLess Greater = false
+
+-- the dart e is met: the arrays hold the queue with it, and its label is at hand
+pub record Met (q : List ℕ) (e : ℕ) (labels queue : List ℕ) (r : Labelling) : Type 0 where
+  pub holds : Holds labels queue (r .given) (visit q e)
+  pub number : r .label ≡ labelIn (visit q e) e
+
+-- the number x may be judged at place p: against a firm word, a start that is less was left
+pub record Weighs (p x : ℕ) (side : Side) (firm : Bool) : Type 0 where
+  pub place : p < 1020
+  pub fits : x ≤ 1020
+  pub on : leavesAt firm side ≡ false
+
+-- the number x is judged at place p: where the start is less and the word not firm, the array takes it
+pub record Weighed (before after : List ℕ) (p x : ℕ) (side : Side) (firm : Bool) (r : Side) : Type 0 where
+  pub side-after : r ≡ sideAfter side x (getD before p 0)
+  pub written : after ≡ cond (isLess r && not firm) (set before p x) before
+
+-- a start may be tried: no dart has a label
+pub record Ready (g : Given) (back labels queue held : List ℕ) (d : ℕ) : Type 0 where
+  pub shaped : Shaped g
+  pub taken : Accepted (mapOf g)
+  pub backs : back ≡ backsOf (mapOf g)
+  pub dart : IsDart (mapOf g) d
+  pub blank : labels ≡ replicate 1020 0
+  pub long-queue : length queue ≡ 1020
+  pub long-word : length held ≡ 1020
+
+-- how the start d comes out against the first n·m numbers of `held`, which then hold the lesser word, unless they are firm
+pub record Outcome (g : Given) (d : ℕ) (firm : Bool) (held held′ : List ℕ) (side : Side) : Type 0 where
+  pub outcome : side ≡ sideOf (word (mapOf g) d) (take (g .n * g .m) held)
+  pub best : held′ ≡ cond firm held (over (lesser (take (g .n * g .m) held) (word (mapOf g) d)) held)
+
+-- the start d has run: the arrays hold the queue of what was labelled, all of it where the start is not left
+pub record Raced (g : Given) (d : ℕ) (firm : Bool) (held labels′ queue′ held′ : List ℕ) (r : Course) : Type 0 where
+  pub came : Outcome g d firm held held′ (r .side)
+  pub good : DartsOnce (mapOf g) (take (r .given) queue′)
+  pub holds : Holds labels′ queue′ (r .given) (take (r .given) queue′)
+  pub whole : leavesAt firm (r .side) ≡ false → take (r .given) queue′ ≡ labelling (mapOf g) d
+
+-- and its labels are forgotten
+pub record Tried (g : Given) (d : ℕ) (firm : Bool) (held labels′ queue′ held′ : List ℕ) (side : Side) : Type 0 where
+  pub came : Outcome g d firm held held′ side
+  pub blank : labels′ ≡ replicate 1020 0
+  pub long-queue : length queue′ ≡ 1020
+  pub whole : leavesAt firm side ≡ false → take (g .m) queue′ ≡ labelling (mapOf g) d
+
+-- the start kept: a lesser word starts anew
+unfoldable pub startedAt : Side → ℕ → ℕ → ℕ
+startedAt Less d kept = d
+startedAt Same d kept = kept
+startedAt Greater d kept = kept
+
+-- how many starts have yielded the best word
+unfoldable pub countedAt : Side → ℕ → ℕ
+countedAt Less kept = 1
+countedAt Same kept = kept + 1
+countedAt Greater kept = kept
+
+-- all starts of an accepted map may be tried; above all labels stands what is held
+pub record Starting (g : Given) (back labels held : List ℕ) : Type 0 where
+  pub shaped : Shaped g
+  pub taken : Accepted (mapOf g)
+  pub backs : back ≡ backsOf (mapOf g)
+  pub blank : labels ≡ replicate 1020 0
+  pub above : held ≡ replicate 1020 65535
+
+-- the signature's run has come to its end
+pub record Signs (g : Given) (r : Signing) : Type 0 where
+  pub long : length (r .word) ≡ 1020
+  pub least-word : take (g .n * g .m) (r .word) ≡ signature (mapOf g)
+  pub first : r .start ≡ start (mapOf g)
+  pub alike : r .symmetries ≡ symmetries (mapOf g)
+
+-- the first `size` numbers of an array may be copied to the output
+pub record Copies (held output : List ℕ) (size : ℕ) : Type 0 where
+  pub few : size ≤ 1020
+  pub room : size ≤ length output
+  pub long : length held ≡ 1020
+
+pub record Copied (held output : List ℕ) (size : ℕ) (output′ : List ℕ) : Type 0 where
+  pub written : output′ ≡ take size held ++ drop size output

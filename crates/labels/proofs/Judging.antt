@@ -6,7 +6,8 @@
 --     table-shows, table-clear, clear-table  1 to 9, with the output that a call is lent
 --     table-nine, nine-before, nine-none, nine-refused
 --                                            1 to 9 by what 1 to 8 answer
---     table-whole, sewing-whole              a table whose verdict accepts is accepted, at place 0
+--     table-whole, check-whole, sewing-whole
+--                                            a table whose verdict accepts is accepted, at place 0
 --     shaped-map                             of a table in shape, 5 to 9 are left
 --     judges-only, check-only                no second answer fits
 -- Assumes nothing.
@@ -209,6 +210,11 @@ pub shaped-map : (g : Given) → Shaped g → checkAnswer g ≡ judgeMap (mapOf 
 unfolding checkAnswer tableAnswer judgeOutput judgeMap accepts accepted inOrder
 shaped-map g s =
     inOrder-passed (judgeShape g) (accepted ∷ judgeMap (mapOf g) ∷ []) (ap accepts (clear-shows (shape-shows g) (shape-clear g .1 s))) ∙ inOrder-one _ (inOrder-accepts (judgeEntries (mapOf g) ∷ atLeast 9 (notReached (mapOf g)) ∷ []))
+
+-- a table that the plain check passes is accepted, at place 0
+pub check-whole : (g : Given) → accepts (checkAnswer g) ≡ true → checkAnswer g ≡ accepted
+unfolding checkAnswer
+check-whole g e = table-whole _ g e
 
 -- no second answer of `judge` fits, nor other contents of the arrays that it is lent
 pub judges-only : (o : Output) (g : Given) (r s : Judged) (b c l k : List ℕ) → Judges o g r b l → Judges o g s c k → (r ≡ s) × (b ≡ c) × (l ≡ k)

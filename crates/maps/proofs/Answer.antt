@@ -2,7 +2,8 @@
 --     as-refused, as-passed               an answer that has its verdict
 --     as-same                             judges that agree on a table have the same answers
 --     passed-accepts, refused-accepts     an answer is `Passed` exactly when its verdict accepts
---     refused-is                          a refusal has the number and place of its verdict
+--     refused-is, refused-low             a refusal has the number and place of its verdict, and a number from 1
+--     judged-of-refused                   the answer for a refusal
 --     judged-only                         no second answer fits
 --     verdictOf-judgedOf                  an answer's number and place are its verdict's
 --     Backs M k held                      at each dart stands the least of the first k darts that β1 takes there, or 0
@@ -79,6 +80,19 @@ refused-is v k p is =
     let number : v .number ≡ k = cc in
     let place : v .place ≡ p = cc in
     λ i. record { number = number i; place = place i }
+
+-- a refusal's number is at least 1
+pub refused-low : (v : Verdict) (k p : ℕ) → Refused k p ≡ judgedOf v → 1 ≤ k
+unfolding accepts refused
+refused-low v k p is =
+    let some = eqb-false (v .number) 0 (refused-accepts v k p is) in
+    let number : v .number ≡ k = ap (λ (w : Verdict). w .number) (refused-is v k p is) in
+    omega arith
+
+-- the answer for a refusal
+pub judged-of-refused : {v : Verdict} (k p : ℕ) → 1 ≤ k → v ≡ refused k p → judgedOf v ≡ Refused k p
+unfolding judgedOf refused
+judged-of-refused k p low is = let refuses : accepts (refused k p) ≡ false = refused-refuses k p low in rw is (simp refuses)
 
 -- no second answer fits, nor a second array
 pub judged-only : (judge : Given → Verdict) (g : Given) (r s : Judged) (held kept : List ℕ) → JudgedAs judge g r held → JudgedAs judge g s kept → (r ≡ s) × (held ≡ kept)

@@ -1,11 +1,20 @@
 -- The laws of `specs/Boundary.antt`: no second answer of a call of the C boundary fits its promise.
---     signature-only     the signature call
+--     shown-only                      a verdict
+--     signature-only, match-only      the signature call, the match
+--     judged-shown                    an answer's number and place are those of the verdict that it stands for
 -- Assumes nothing.
 use Prim.Native.Nat.{ℕ}
-use mathlib.Core.Path.{_≡_, sym, _∙_}
+use mathlib.Core.Path.{_≡_, sym, ap, _∙_}
+use mathlib.Core.Bool.{true}
+use borrow.Author.Tests.{eq-eqb}
 use mathlib.Core.List.{List}
 use Rattle.maps.specs.Given.{Given}
-use Rattle.reader.specs.Boundary.{SignedAs}
+use Rattle.maps.specs.Verdict.{Verdict, accepted, accepts}
+use Rattle.maps.specs.Answer.{verdictOf, judgedOf}
+use Rattle.maps.specs.declared.Judged.{Judged}
+use Rattle.maps.proofs.Answer.{verdictOf-judgedOf}
+use Rattle.reader.specs.Boundary.{ShownAs, SignedAs, MatchedAs}
+use Rattle.reader.specs.declared.DuftheimVerdict.{DuftheimVerdict}
 use Rattle.reader.specs.declared.DuftheimSigned.{DuftheimSigned}
 
 pub signature-only : (g : Given) (before : List ℕ) (r s : DuftheimSigned) (o p : List ℕ) → SignedAs g before r o → SignedAs g before s p → (r ≡ s) × (o ≡ p)
@@ -18,3 +27,20 @@ signature-only g before r s o p a b = (
   },
   a .written ∙ sym (b .written),
 )
+
+pub shown-only : (v : Verdict) (r s : DuftheimVerdict) → ShownAs v r → ShownAs v s → r ≡ s
+shown-only v r s a b = λ i. record { number = (a .number ∙ sym (b .number)) i; place = (a .place ∙ sym (b .place)) i }
+
+pub match-only : (a b : Given) (before : List ℕ) (r s : DuftheimVerdict) (o p : List ℕ) → MatchedAs a b before r o → MatchedAs a b before s p → (r ≡ s) × (o ≡ p)
+match-only a b before r s o p x y = (shown-only _ r s (x .answer) (y .answer), x .written ∙ sym (y .written))
+
+-- an answer's number and place are those of the verdict that it stands for
+pub judged-shown : (v : Verdict) → (accepts v ≡ true → v ≡ accepted) → (j : Judged) → j ≡ judgedOf v → (r : DuftheimVerdict) → ShownAs (verdictOf j) r → ShownAs v r
+unfolding accepts accepted
+judged-shown v whole j is r shows = rw same at shows
+  where
+    clean : v .number ≡ 0 → v .place ≡ 0
+    clean z = ap (λ (w : Verdict). w .place) (whole (eq-eqb (v .number) 0 z))
+
+    same : verdictOf j ≡ v
+    same = ap verdictOf is ∙ verdictOf-judgedOf v clean

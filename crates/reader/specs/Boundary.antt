@@ -1,13 +1,20 @@
 -- What the calls of the C boundary promise: the numbers of the definitions, field by field, and what is left in every buffer.
---     SignedAs     the signature call
+--     ShownAs       a verdict: its number and its place
+--     CheckedAs     the plain check
+--     SignedAs      the signature call
+--     MatchedAs     the match
 -- Assumes nothing.
 use mathlib.Core.Path.{_≡_}
 use mathlib.Core.List.{List}
 use Prim.Native.Nat.{ℕ}
 use lib.ListN.{length}
 use Rattle.maps.specs.Given.{Given}
+use Rattle.maps.specs.Verdict.{Verdict}
+use Rattle.labels.specs.Judging.{checkAnswer}
 use Rattle.words.specs.Sign.{signatureAnswer, signatureOutput}
+use Rattle.words.specs.Match.{matchAnswer, matchOutput}
 use Rattle.reader.specs.declared.DuftheimSigned.{DuftheimSigned}
+use Rattle.reader.specs.declared.DuftheimVerdict.{DuftheimVerdict}
 
 -- r is the answer, and `after` what the output holds that held `before`
 pub record SignedAs (g : Given) (before : List ℕ) (r : DuftheimSigned) (after : List ℕ) : Type 0 where
@@ -16,3 +23,16 @@ pub record SignedAs (g : Given) (before : List ℕ) (r : DuftheimSigned) (after 
   pub start : r .start ≡ signatureAnswer g (length before) .start
   pub symmetries : r .symmetries ≡ signatureAnswer g (length before) .symmetries
   pub written : after ≡ signatureOutput g before
+
+-- r shows the verdict v
+pub record ShownAs (v : Verdict) (r : DuftheimVerdict) : Type 0 where
+  pub number : r .number ≡ v .number
+  pub place : r .place ≡ v .place
+
+abbrev pub CheckedAs : Given → DuftheimVerdict → Type 0
+CheckedAs g r = ShownAs (checkAnswer g) r
+
+-- r is the answer, and `after` what the output holds that held `before`
+pub record MatchedAs (a b : Given) (before : List ℕ) (r : DuftheimVerdict) (after : List ℕ) : Type 0 where
+  pub answer : ShownAs (matchAnswer a b (length before)) r
+  pub written : after ≡ matchOutput a b before

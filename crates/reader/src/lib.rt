@@ -1,7 +1,16 @@
 // The C boundary: the calls that the camera's program makes, on numbers and slices. include/duftheim.h declares them.
 ghost use Rattle.maps.specs.Given.{lent};
-ghost use Rattle.reader.specs.Boundary.{SignedAs};
+ghost use Rattle.maps.specs.Answer.{verdictOf};
+ghost use Rattle.reader.specs.Boundary.{ShownAs, CheckedAs, SignedAs, MatchedAs};
+use maps::Judged;
 use words::Signed;
+
+// A verdict, as C sees it: number 0 and place 0 where the call accepts.
+#[repr(C)]
+pub struct DuftheimVerdict {
+    pub number: u32,
+    pub place: usize,
+}
 
 // The answer of the signature call, as C sees it: number 0 where the map is accepted.
 #[repr(C)]
@@ -36,4 +45,39 @@ pub extern "C" fn duftheim_signature(
             symmetries: 0,
         },
     }
+}
+
+fn shown(judged: Judged) -> DuftheimVerdict
+    ensures { λ r. ⌜ ShownAs (verdictOf judged) r ⌝ }
+{
+    match judged {
+        Judged::Passed => DuftheimVerdict {
+            number: 0,
+            place: 0,
+        },
+        Judged::Refused { number, place } => DuftheimVerdict { number, place },
+    }
+}
+
+#[no_mangle]
+pub extern "C" fn duftheim_check(n: usize, m: usize, table: &[u16]) -> DuftheimVerdict
+    ensures { λ r. ⌜ CheckedAs (lent n m (now (table .entry))) r ⌝ }
+{
+    shown(labels::check(n, m, table))
+}
+
+#[no_mangle]
+pub extern "C" fn duftheim_match(
+    n: usize,
+    m: usize,
+    table: &[u16],
+    n2: usize,
+    m2: usize,
+    table2: &[u16],
+    output: &mut [u16],
+) -> DuftheimVerdict
+    ensures { λ r. ⌜ MatchedAs (lent n m (now (table .entry))) (lent n2 m2 (now (table2 .entry))) (now (output .entry)) r (now (output .exit)) ⌝ }
+{
+    let judged = words::match_maps(n, m, table, n2, m2, table2, output);
+    shown(judged)
 }

@@ -11,3 +11,5 @@ pub mod Standing
 pub mod Racing
 pub mod Sign
 pub mod Theorems
+pub mod Match
+pub mod MatchTheorems

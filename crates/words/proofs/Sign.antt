@@ -1,4 +1,6 @@
 -- The laws of `specs/Sign.antt`: what `signature` answers, from the verdict on its table and output.
+--     take-replicate           the first of equal numbers
+--     over-front, over-long    what is written over a list stands in front, and keeps its length
 --     signed-refused           a refusal: its number and place, and the output as it was
 --     length-signature         a signature has n·m numbers
 --     signed-run               what the run has found, copied to the output, is the answer
@@ -8,14 +10,16 @@
 --                              an answer's numbers are those of the definition
 --     signing-shows            they are what the call's lines show
 -- Assumes nothing.
-use Prim.Native.Nat.{ℕ, _*_, _≤_}
+use Prim.Native.Nat.{ℕ, zero, suc, _*_, _≤_}
 use mathlib.Core.Path.{_≡_, refl, sym, ap, _∙_}
 use mathlib.Core.Bool.{Bool, true, false, cond}
-use mathlib.Core.List.{List, _++_}
+use mathlib.Core.List.{List, _∷_, _++_}
 use native.Mathlib.Omega.{arith}
+use native.Mathlib.Nat.{le-of-suc-le-suc}
 use borrow.Author.Tests.{leb-true, eqb-true, eqb-false}
 use lib.Dec.{eqb, leb}
-use lib.ListN.{length, take, drop}
+use lib.ListN.{length, take, drop, replicate, length-append, length-drop}
+use lib.Seq.{take-append-seam}
 use Rattle.maps.specs.Map.{Map}
 use Rattle.maps.specs.Accepted.{Accepted}
 use Rattle.maps.specs.Given.{Given, mapOf, Shaped}
@@ -37,6 +41,20 @@ use Rattle.words.specs.declared.least_word.Signed.{Signed}
 use Rattle.words.specs.declared.least_word.Signed.the-variants.{Word, Refused}
 use Rattle.words.specs.declared.least_word.Signing.{Signing}
 use Rattle.words.proofs.Starts.{bestAfter-signature, length-bestAfter}
+
+pub take-replicate : (k n x : ℕ) → k ≤ n → take k (replicate n x) ≡ replicate k x
+take-replicate zero n x h = refl
+take-replicate (suc k) zero x h = absurd (omega arith)
+take-replicate (suc k) (suc n) x h = ap (λ (l : List ℕ). x ∷ l) (take-replicate k n x (le-of-suc-le-suc h))
+
+-- what stands in front after writing over
+pub over-front : (w held : List ℕ) (k : ℕ) → length w ≡ k → take k (over w held) ≡ w
+unfolding over
+over-front w held k e = rw (← e) (take-append-seam w (drop (length w) held))
+
+pub over-long : (w held : List ℕ) → length w ≤ length held → length (over w held) ≡ length held
+unfolding over
+over-long w held fits = simp (length-append, length-drop) (omega arith)
 
 -- a signature has n·m numbers
 pub length-signature : {M : Map} → Accepted M → length (signature M) ≡ M .dim * M .darts
@@ -95,8 +113,8 @@ shown-signed a clean none = at (tested (eqb (a .number) 0))
   where
     at : Tested (eqb (a .number) 0) → shownSigned (signedOf a) ≡ a
     at (passes e) =
-        let zero = eqb-true (a .number) 0 e in
-        simp e (λ i. record { number = sym zero i; place = sym (clean zero) i; start = a .start; symmetries = a .symmetries })
+        let nought = eqb-true (a .number) 0 e in
+        simp e (λ i. record { number = sym nought i; place = sym (clean nought) i; start = a .start; symmetries = a .symmetries })
     at (fails e) =
         let rest = none (eqb-false (a .number) 0 e) in
         simp e (λ i. record { number = a .number; place = a .place; start = sym (rest .0) i; symmetries = sym (rest .1) i })
@@ -111,8 +129,8 @@ module _ (g : Given) (room : ℕ) where
   shown-answer = shown-signed (signatureAnswer g room) (at (tested (eqb (w .number) 0))) (at-refused (tested (eqb (w .number) 0)))
     where
       at : Tested (eqb (w .number) 0) → signatureAnswer g room .number ≡ 0 → signatureAnswer g room .place ≡ 0
-      at (passes e) zero = simp e
-      at (fails e) zero = absurd (eqb-false (w .number) 0 e (simp e at zero))
+      at (passes e) none = simp e
+      at (fails e) none = absurd (eqb-false (w .number) 0 e (simp e at none))
 
       at-refused : Tested (eqb (w .number) 0) → (signatureAnswer g room .number ≡ 0 → ⊥) → (signatureAnswer g room .start ≡ 0) × (signatureAnswer g room .symmetries ≡ 0)
       at-refused (passes e) some = absurd (some (simp e))

@@ -42,7 +42,7 @@ use Rattle.words.proofs.Order.{same-equal, equal-same, less-irreflexive
 use Rattle.words.proofs.Lexicographic.{less-at}
 
 -- what fails is false
-false-of-not-true : (b : Bool) → (b ≡ true → ⊥) → b ≡ false
+pub false-of-not-true : (b : Bool) → (b ≡ true → ⊥) → b ≡ false
 false-of-not-true b never = at (tested b)
   where
     at : Tested b → b ≡ false

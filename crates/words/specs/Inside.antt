@@ -9,20 +9,23 @@
 --     startedAt, countedAt        the start and the count kept, by how the last start came out
 --     Starting, Signs             the signature's run may start, and has come to its end
 --     Copies, Copied              numbers may be copied to an output, and are
+--     Seeks, Sought               all starts may be tried against a word held, and the least that yields it is found
+--     Images, Imaged              the images of a matching may be written, and are
 -- Assumes nothing.
 use Prim.Native.Nat.{ℕ, _+_, _*_, _≤_, _<_}
 use mathlib.Core.Path.{_≡_}
 use mathlib.Core.Bool.{Bool, true, false, cond, not, _&&_}
-use mathlib.Core.List.{List, _++_}
+use mathlib.Core.List.{List, _++_, map}
 use lib.Dec.{ltb}
 use lib.ListN.{length, getD, set, take, drop, replicate}
+use Rattle.maps.specs.Least.{nth, upTo, least}
 use Rattle.maps.specs.Map.{Map, IsDart}
 use Rattle.maps.specs.Accepted.{Accepted}
 use Rattle.maps.specs.Given.{Given, mapOf, Shaped}
 use Rattle.maps.specs.Answer.{backsOf}
 use Rattle.labels.specs.Queue.{labelIn, visit, labelling}
 use Rattle.labels.specs.Inside.{DartsOnce, Holds}
-use Rattle.words.specs.Words.{word, same, less, lesser, signature, start, symmetries}
+use Rattle.words.specs.Words.{word, same, less, lesser, signature, yields, start, symmetries}
 use Rattle.words.specs.Sign.{over}
 use Rattle.words.specs.declared.engine.Side.{Side}
 use Rattle.words.specs.declared.engine.Side.the-variants.{Less, Same, Greater}
@@ -50,6 +53,11 @@ unfoldable pub isLess : Side → Bool
 isLess Less = true
 isLess Same = false
 isLess Greater = false
+
+unfoldable pub isSame : Side → Bool
+isSame Less = false
+isSame Same = true
+isSame Greater = false
 
 -- the dart e is met: the arrays hold the queue with it, and its label is at hand
 pub record Met (q : List ℕ) (e : ℕ) (labels queue : List ℕ) (r : Labelling) : Type 0 where
@@ -131,3 +139,31 @@ pub record Copies (held output : List ℕ) (size : ℕ) : Type 0 where
 
 pub record Copied (held output : List ℕ) (size : ℕ) (output′ : List ℕ) : Type 0 where
   pub written : output′ ≡ take size held ++ drop size output
+
+-- all starts of an accepted map may be tried against a word that is held
+pub record Seeks (g : Given) (back labels queue held : List ℕ) : Type 0 where
+  pub shaped : Shaped g
+  pub taken : Accepted (mapOf g)
+  pub backs : back ≡ backsOf (mapOf g)
+  pub blank : labels ≡ replicate 1020 0
+  pub long-queue : length queue ≡ 1020
+  pub long-word : length held ≡ 1020
+
+-- the least start that yields the word held, or 0, and the queue of its labelling
+pub record Sought (g : Given) (held : List ℕ) (r : ℕ) (queue′ : List ℕ) : Type 0 where
+  pub found : r ≡ least (g .m) (yields (mapOf g) (take (g .n * g .m) held))
+  pub whole : 0 < r → take (g .m) queue′ ≡ labelling (mapOf g) r
+  pub long-queue : length queue′ ≡ 1020
+
+-- the images of m darts may be written: the first queue lists the darts 1 to m
+pub record Images (first second output : List ℕ) (m : ℕ) : Type 0 where
+  pub few : m ≤ 1020
+  pub room : m ≤ length output
+  pub long-first : length first ≡ 1020
+  pub long-second : length second ≡ 1020
+  pub dart-at : (k : ℕ) → 1 ≤ k → k ≤ m → (1 ≤ nth (take m first) k) × (nth (take m first) k ≤ m)
+  pub label-of : (k : ℕ) → 1 ≤ k → k ≤ m → labelIn (take m first) (nth (take m first) k) ≡ k
+  pub label-low : (d : ℕ) → 1 ≤ d → d ≤ m → (1 ≤ labelIn (take m first) d) × (labelIn (take m first) d ≤ m)
+
+pub record Imaged (first second output : List ℕ) (m : ℕ) (output′ : List ℕ) : Type 0 where
+  pub written : output′ ≡ over (map (λ d. nth (take m second) (labelIn (take m first) d)) (upTo m)) output

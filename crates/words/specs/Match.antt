@@ -5,6 +5,7 @@
 --     judgeMatching         10 where there is no matching
 --     matchAnswer           number and place
 --     matchOutput           the output's contents afterwards
+--     MatchesAs             what `match_maps` answers and leaves in its output
 --     matchLines            the lines of the display's table that it can show, in their order
 -- Assumes nothing.
 use Prim.Native.Nat.{ℕ}
@@ -20,6 +21,8 @@ use Rattle.maps.specs.Matching.{Matched}
 use Rattle.maps.specs.Given.{Given, mapOf}
 use Rattle.maps.specs.Verdict.{Verdict, accepts, unless, inOrder, ofSecond}
 use Rattle.maps.specs.Lines.{Line, plain, raised, tableLines, checkLines}
+use Rattle.maps.specs.Answer.{judgedOf}
+use Rattle.maps.specs.declared.Judged.{Judged}
 use Rattle.maps.specs.declared.Output.the-variants.{Images}
 use Rattle.labels.specs.Judging.{tableAnswer, checkAnswer}
 use Rattle.words.specs.Words.{word, yields, byLabels}
@@ -59,6 +62,11 @@ matchOutput a b out =
     cond (accepts (matchAnswer a b (length out)))
     (over (shown (mapOf a) (mapOf b)) out)
     out
+
+-- the answer r, and `after` in the output that held `before`
+pub record MatchesAs (a b : Given) (before : List ℕ) (r : Judged) (after : List ℕ) : Type 0 where
+  pub answer : r ≡ judgedOf (matchAnswer a b (length before))
+  pub written : after ≡ matchOutput a b before
 
 -- n or m differ
 abbrev pub Unlike : Given → Given → Type 0

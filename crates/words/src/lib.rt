@@ -1,6 +1,8 @@
 // Words, the least word, and the calls that run starts: each in its own module, above the engine that runs one.
 mod engine;
 mod least_word;
+mod matching;
 
 pub use least_word::Signed;
 pub use least_word::signature;
+pub use matching::match_maps;

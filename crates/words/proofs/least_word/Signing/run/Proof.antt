@@ -1,23 +1,21 @@
 -- `words::least_word::Signing::run` meets its contract: after each start the best word, its least start and their count are those of the
 -- starts tried. Assumes nothing.
-use Prim.Native.Nat.{ℕ, zero, suc, _+_, _-_, _*_, _≤_, _<_}
+use Prim.Native.Nat.{ℕ, suc, _+_, _-_, _*_, _≤_, _<_}
 use mathlib.Core.Path.{_≡_, refl, sym, ap, _∙_}
 use mathlib.Core.Bool.{false}
-use mathlib.Core.List.{List, _∷_, _++_}
+use mathlib.Core.List.{List}
 use native.Mathlib.Omega.{arith}
-use native.Mathlib.Nat.{le-of-suc-le-suc}
 use borrow.Author.Needs.{needs}
-use lib.ListN.{length, take, drop, replicate, length-replicate, length-append, length-drop}
-use lib.Seq.{take-append-seam}
+use lib.ListN.{length, take, replicate, length-replicate}
 use Rattle.maps.specs.Map.{Map, IsDart}
 use Rattle.maps.specs.Accepted.{Accepted}
 use Rattle.maps.specs.Given.{Given, lent, mapOf}
 use Rattle.maps.proofs.Accepted.{darts-most}
 use Rattle.words.specs.Words.{word, lesser}
-use Rattle.words.specs.Sign.{over}
 use Rattle.words.specs.Inside.{sideOf, startedAt, countedAt, Tried, Signs}
 use Rattle.words.specs.declared.engine.Side.{Side}
 use Rattle.words.proofs.Starts.{bestAfter, sideAt, startAfter, countAfter, bestAfter-zero, startAfter-zero, countAfter-zero, bestAfter-suc, sideAt-is, startAfter-suc, countAfter-suc, length-bestAfter, countAfter-le, bestAfter-signature, startAfter-start, countAfter-symmetries}
+use Rattle.words.proofs.Sign.{take-replicate, over-front, over-long}
 use Rattle.words.proofs.least_word.Signing.run.Statement.{statement}
 use Rattle.words.proofs.least_word.Signing.run.Tie as tie
 
@@ -31,20 +29,6 @@ record Trying (M : Map) (labels queue held : List ℕ) (s c d : ℕ) : Type 0 wh
   best : take (M .dim * M .darts) held ≡ bestAfter M (d - 1)
   first : s ≡ startAfter M (d - 1)
   alike : c ≡ countAfter M (d - 1)
-
-take-replicate : (k n x : ℕ) → k ≤ n → take k (replicate n x) ≡ replicate k x
-take-replicate zero n x h = refl
-take-replicate (suc k) zero x h = absurd (omega arith)
-take-replicate (suc k) (suc n) x h = ap (λ (l : List ℕ). x ∷ l) (take-replicate k n x (le-of-suc-le-suc h))
-
--- what stands in front after writing over
-over-front : (w held : List ℕ) (k : ℕ) → length w ≡ k → take k (over w held) ≡ w
-unfolding over
-over-front w held k e = rw (← e) (take-append-seam w (drop (length w) held))
-
-over-long : (w held : List ℕ) → length w ≤ length held → length (over w held) ≡ length held
-unfolding over
-over-long w held fits = simp (length-append, length-drop) (omega arith)
 
 -- one start more
 trying-turn : {g : Given} → Accepted (mapOf g) → g .n * g .m ≤ 1020

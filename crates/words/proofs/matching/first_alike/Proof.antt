@@ -1,0 +1,159 @@
+-- `words::matching::first_alike` meets its contract: the starts are tried upwards, until one yields the word held. Assumes nothing.
+use Prim.Native.Nat.{ℕ, _+_, _-_, _*_, _≤_, _<_}
+use mathlib.Core.Path.{_≡_, refl, sym, ap, _∙_}
+use mathlib.Core.Bool.{Bool, true, false}
+use mathlib.Core.List.{List}
+use native.Mathlib.Omega.{arith}
+use borrow.Author.Needs.{needs}
+use lib.ListN.{length, take, replicate}
+use Rattle.maps.specs.Map.{Map}
+use Rattle.maps.specs.Given.{Given, lent, mapOf}
+use Rattle.maps.proofs.Least.{true-not-false, Passed, passed-start, passed-turn, passed-found, passed-misses, least-is, none-least}
+use Rattle.maps.proofs.Accepted.{darts-most}
+use Rattle.words.specs.Words.{word, yields}
+use Rattle.words.specs.Inside.{sideOf, leavesAt, isSame, Tried}
+use Rattle.words.specs.declared.engine.Side.{Side}
+use Rattle.words.specs.declared.engine.Side.the-variants.{Less, Same, Greater}
+use Rattle.words.proofs.Order.{yields-word, word-yields}
+use Rattle.words.proofs.Starts.{Against, lower, level, higher, against, same-side, false-of-not-true}
+use Rattle.words.proofs.matching.first_alike.Statement.{statement}
+use Rattle.words.proofs.matching.first_alike.Tie as tie
+
+-- the starts below d are tried against the word held, and none yields it
+record Seeking (M : Map) (held₀ labels queue held : List ℕ) (d : ℕ) : Type 0 where
+  low : 1 ≤ d
+  high : d ≤ M .darts + 1
+  blank : labels ≡ replicate 1020 0
+  long-queue : length queue ≡ 1020
+  firm : held ≡ held₀
+  so-far : Passed (yields M (take (M .dim * M .darts) held₀)) d
+
+-- a start comes out the same exactly when it yields the word
+same-yields : (M : Map) (w : List ℕ) (d : ℕ) (s : Side) (b : Bool) → s ≡ sideOf (word M d) w → b ≡ isSame s → yields M w d ≡ b
+unfolding isSame
+same-yields M w d s b is told = at (against (word M d) w)
+  where
+    tells : (t : Side) → sideOf (word M d) w ≡ t → b ≡ isSame t
+    tells t e = told ∙ ap isSame (is ∙ e)
+
+    misses : (yields M w d ≡ true → ⊥) → yields M w d ≡ false
+    misses never = false-of-not-true (yields M w d) never
+
+    differs : (t : Side) → sideOf (word M d) w ≡ t → (t ≡ Same → ⊥) → yields M w d ≡ false
+    differs t e other = misses (λ y. other (sym e ∙ same-side (word M d) w (yields-word M w d y)))
+
+    at : Against (word M d) w → yields M w d ≡ b
+    at (lower e h l) = differs Less e (λ z. let y : _≡_ {A = ℕ} 0 1 = cc in omega arith) ∙ sym (tells Less e)
+    at (level e h l) = word-yields M w d h ∙ sym (tells Same e)
+    at (higher e h l) = differs Greater e (λ z. let y : _≡_ {A = ℕ} 0 1 = cc in omega arith) ∙ sym (tells Greater e)
+
+-- a start that comes out the same is not left
+same-stays : (s : Side) → isSame s ≡ true → leavesAt true s ≡ false
+unfolding isSame leavesAt
+same-stays Less e = absurd (true-not-false e refl)
+same-stays Same e = refl
+same-stays Greater e = absurd (true-not-false e refl)
+
+abbrev Inv-loop : tie.InvT-loop
+Inv-loop n m table back labels₀ queue₀ word₀ d₀ labels queue word d = Seeking (mapOf (lent n m table)) word₀ labels queue word d
+
+abbrev μ-loop : tie.MeasureT-loop
+μ-loop n m table back labels₀ queue₀ word₀ d₀ labels queue word d = m + 1 - d
+
+-- the places of this proof
+abbrev start : tie.At-loop Inv-loop μ-loop → tie.Start Inv-loop μ-loop
+start c = c .before .before
+
+abbrev in-loop : tie.After-try-start Inv-loop μ-loop → tie.In-loop Inv-loop μ-loop
+in-loop c = c .before .before .before .before
+
+abbrev tried : tie.After-alike Inv-loop μ-loop → tie.After-try-start Inv-loop μ-loop
+tried c = c .before
+
+loop-holds : tie.Need-loop-holds Inv-loop μ-loop
+unfolding mapOf
+loop-holds c =
+    let s = c .before in
+    record { low = omega arith; high = omega arith; blank = s .pre .blank; long-queue = s .pre .long-queue; firm = refl; so-far = passed-start _ }
+
+try-start-requires : tie.Need-try-start-requires Inv-loop μ-loop
+unfolding mapOf
+try-start-requires c κs =
+    let t = c .before .before .before in
+    let s = start (t .before) in
+    let y = t .before .loop .inv in
+    record {
+      shaped = s .pre .shaped;
+      taken = s .pre .taken;
+      backs = s .pre .backs;
+      dart = (y .low, t .loop-test .taken);
+      blank = y .blank;
+      long-queue = y .long-queue;
+      long-word = ap length (y .firm) ∙ s .pre .long-word;
+    }
+
+-- whether the start yields the word held
+yielded : (c : tie.After-alike Inv-loop μ-loop) →
+    let l = in-loop (tried c) .before in
+    let a = start l .args in
+    yields (mapOf (lent (a .n) (a .m) (a .table .now))) (take (a .n * a .m) (a .word .now)) (l .loop .d) ≡ c .alike .result
+yielded c =
+    let l = in-loop (tried c) .before in
+    let a = start l .args in
+    let M = mapOf (lent (a .n) (a .m) (a .table .now)) in
+    same-yields M _ (l .loop .d) _ _
+    (tried c .try-start .ensures .came .outcome ∙ ap (λ (held : List ℕ). sideOf (word M (l .loop .d)) (take (a .n * a .m) held)) (l .loop .inv .firm))
+    (c .alike .ensures)
+
+returns : tie.Need-returns Inv-loop μ-loop
+unfolding mapOf
+returns c =
+    let l = in-loop (tried (c .before)) .before in
+    let inv = l .loop .inv in
+    let done = tried (c .before) .try-start .ensures in
+    let hit = yielded (c .before) ∙ c .if1 .taken in
+    record {
+      found = sym (least-is _ _ (passed-found _ (inv .so-far) (inv .low) (omega arith) hit));
+      whole = λ some. done .whole (same-stays (tried (c .before) .try-start .result) (sym (c .before .alike .ensures) ∙ c .if1 .taken));
+      long-queue = done .long-queue;
+    }
+
+loop-again : tie.Need-loop-again Inv-loop μ-loop
+unfolding mapOf
+loop-again c =
+    let l = in-loop (tried (c .before)) .before in
+    let inv = l .loop .inv in
+    let done = tried (c .before) .try-start .ensures in
+    record {
+      low = omega arith;
+      high = omega arith;
+      blank = done .blank;
+      long-queue = done .long-queue;
+      firm = done .came .best ∙ inv .firm;
+      so-far = passed-turn _ (inv .so-far) (yielded (c .before) ∙ c .if1 .left);
+    }
+
+returns-2 : tie.Need-returns-2 Inv-loop μ-loop
+unfolding mapOf
+returns-2 c =
+    let inv = c .before .loop .inv in
+    record {
+      found = sym (none-least _ _ (passed-misses _ (inv .so-far) (c .loop-test .left)));
+      whole = λ some. absurd (omega arith);
+      long-queue = inv .long-queue;
+    }
+
+pub first-alike-spec : {M : Type 1} → statement M
+first-alike-spec =
+    tie.close
+    (tie.spec
+    Inv-loop
+    μ-loop
+    loop-holds
+    try-start-requires
+    (λ c κs. search needs)
+    returns
+    (λ c. let l = in-loop (tried (c .before)) .before in omega (arith, darts-most (start l .pre .shaped .bounds)))
+    (λ c. omega arith)
+    loop-again
+    returns-2)

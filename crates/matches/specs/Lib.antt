@@ -2,3 +2,4 @@
 pub mod Judge
 pub mod JudgeTheorems
 pub mod Bench
+pub mod Inside

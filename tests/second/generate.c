@@ -110,18 +110,6 @@ static const struct tiny_size tiny_sizes[] = {
     {{2, 3}, 3}, {{3, 1}, 2}, {{3, 2}, 2}, {{4, 1}, 2}, {{4, 2}, 2},
 };
 
-// The next table in counting order; false after the last one.
-static bool next_table(struct map *map, uint16_t most) {
-  for (size_t at = 0; at < map->length; at++) {
-    if (map->table[at] < most) {
-      map->table[at]++;
-      return true;
-    }
-    map->table[at] = 0;
-  }
-  return false;
-}
-
 static void print_tiny(struct sink *sink) {
   for (size_t at = 0; at < sizeof tiny_sizes / sizeof tiny_sizes[0]; at++) {
     struct size size = tiny_sizes[at].size;
@@ -250,6 +238,10 @@ static bool print_kind(const char *kind, uint64_t seed, uint64_t count) {
     print_large(&chance, &both);
   } else if (strcmp(kind, "tiny") == 0) {
     print_tiny(&both);
+  } else if (strcmp(kind, "large-pairs") == 0) {
+    print_large_pairs(&chance);
+  } else if (strcmp(kind, "tiny-pairs") == 0) {
+    print_tiny_pairs(&chance);
   } else if (strcmp(kind, "records") == 0) {
     write_records(&chance, count);
   } else if (strcmp(kind, "bench") == 0) {
@@ -290,7 +282,8 @@ int main(int argc, char **argv) {
   if (!understood || !print_kind(argv[2], seed, count)) {
     fprintf(stderr,
             "usage: generate SEED KIND [COUNT], COUNT up to 1000000, KIND one of\n"
-            "check sign match judge drawer large tiny records bench bench-sign bench-match\n");
+            "check sign match judge drawer large large-pairs tiny tiny-pairs records bench\n"
+            "bench-sign bench-match\n");
     return 2;
   }
   return fflush(stdout) == 0 && !ferror(stdout) ? 0 : 1;

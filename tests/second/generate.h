@@ -18,6 +18,8 @@ void print_check(const struct map *map);
 void print_sign(struct chance *chance, const struct map *map, enum output_length length);
 void print_match(struct chance *chance, const struct map *first, const struct map *second,
                  enum output_length length);
+void print_judge(const struct map *first, const struct map *second, const uint16_t *list,
+                 size_t length);
 
 // How many of `count` cases fall to the group that weighs `weight` after `before`, of `total`.
 uint64_t share(uint64_t count, uint64_t before, uint64_t weight, uint64_t total);
@@ -26,6 +28,10 @@ uint64_t share(uint64_t count, uint64_t before, uint64_t weight, uint64_t total)
 void print_match_cases(struct chance *chance, uint64_t count, uint64_t most_entries);
 void print_judge_cases(struct chance *chance, uint64_t count, uint64_t most_entries);
 void print_drawer_cases(struct chance *chance, uint64_t count);
+
+// Matches and lists of the largest sizes; all of the smallest maps against each other.
+void print_large_pairs(struct chance *chance);
+void print_tiny_pairs(struct chance *chance);
 
 // Binary records for the layout lister, with a short end behind the last.
 void write_records(struct chance *chance, uint64_t count);

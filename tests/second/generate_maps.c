@@ -23,6 +23,17 @@ struct map map_empty(uint64_t n, uint64_t m) {
   return map;
 }
 
+bool next_table(struct map *map, uint16_t most) {
+  for (size_t at = 0; at < map->length; at++) {
+    if (map->table[at] < most) {
+      map->table[at]++;
+      return true;
+    }
+    map->table[at] = 0;
+  }
+  return false;
+}
+
 struct second_map map_lent(const struct map *map) {
   struct second_map lent = {.n = map->n, .m = map->m, .table = map->table, .length = map->length};
   return lent;

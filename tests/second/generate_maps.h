@@ -29,6 +29,8 @@ uint64_t chance_below(struct chance *chance, uint64_t bound);
 bool chance_one_in(struct chance *chance, uint64_t times);
 
 struct map map_empty(uint64_t n, uint64_t m);
+// The next table in counting order, with entries up to `most`; false after the last one.
+bool next_table(struct map *map, uint16_t most);
 struct second_map map_lent(const struct map *map);
 unsigned map_refusal(const struct map *map);
 

@@ -184,15 +184,6 @@ void print_match_cases(struct chance *chance, uint64_t count, uint64_t most_entr
   print_short_matches(chance, share(count, before, SHORT_WEIGHT, MATCH_TOTAL), most_entries);
 }
 
-static void print_judge(const struct map *first, const struct map *second, const uint16_t *list,
-                        size_t length) {
-  printf("judge");
-  print_map(first);
-  print_map(second);
-  print_numbers(list, length);
-  printf("\n");
-}
-
 static void judge_right(struct chance *chance, uint64_t turn, uint64_t most_entries) {
   (void)turn;
   struct renamed_pair pair = any_renamed_pair(chance, most_entries);

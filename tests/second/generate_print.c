@@ -86,6 +86,15 @@ void print_match(struct chance *chance, const struct map *first, const struct ma
   printf("\n");
 }
 
+void print_judge(const struct map *first, const struct map *second, const uint16_t *list,
+                 size_t length) {
+  printf("judge");
+  print_map(first);
+  print_map(second);
+  print_numbers(list, length);
+  printf("\n");
+}
+
 uint64_t share(uint64_t count, uint64_t before, uint64_t weight, uint64_t total) {
   return count * (before + weight) / total - count * before / total;
 }

@@ -72,6 +72,16 @@ KEPT_WHOLE uint64_t through_a_table(uint64_t number, uint16_t *numbers) {
   }
 }
 
+// Two calls of a C boundary, which are read where none is named.
+
+KEPT_WHOLE uint64_t duftheim_first(uint64_t number) {
+  return small_frame(number) + 1;
+}
+
+KEPT_WHOLE uint64_t duftheim_second(uint64_t number) {
+  return large_frame(number) + 1;
+}
+
 // The rest must be reported, not guessed at.
 
 KEPT_WHOLE uint64_t calls_itself(uint64_t number) {

@@ -1,5 +1,6 @@
-// Reads cases in the form of CASES.md and compares the plain signature with the second program's,
-// answer and output, for each case `sign`; then for each map that is measured.
+// Reads cases in the form of CASES.md and compares the plain signature and the plain match with the
+// second program's, answer and output, for each case `sign` and `match`; then for each map and each
+// pair that is measured.
 #include <inttypes.h>
 #include <stdbool.h>
 #include <stdio.h>
@@ -8,6 +9,7 @@
 
 #include "../second/second.h"
 #include "maps.h"
+#include "pairs.h"
 #include "plain.h"
 
 static _Noreturn void stop(const char *why) {
@@ -82,8 +84,10 @@ static bool same_lists(struct list one, struct list other) {
   return true;
 }
 
-// `out` is the lent output before the call.
-static bool agree(struct second_map map, struct list out) {
+// ---- Comparing ----
+
+// `out` is the lent output before the call, here and below.
+static bool agree_on_signature(struct second_map map, struct list out) {
   struct list plain_out = copied(out);
   struct list second_out = copied(out);
   struct plain_signed plain =
@@ -97,27 +101,17 @@ static bool agree(struct second_map map, struct list out) {
   return same;
 }
 
-static bool agree_on_case(void) {
-  uint64_t n = read_number();
-  uint64_t m = read_number();
-  struct list table = read_list();
-  struct list out = read_list();
-  bool same = agree((struct second_map){n, m, table.numbers, table.length}, out);
-  free(table.numbers);
-  free(out.numbers);
-  return same;
-}
-
-static bool agree_on_map(const struct map_kind *kind, size_t which) {
-  struct list table = new_list(kind->n * kind->m);
-  struct list out = new_list(kind->n * kind->m);
-  map_fill(kind, which, table.numbers);
-  memset(out.numbers, 0, out.length * sizeof out.numbers[0]);
-  struct second_map map = {kind->n, kind->m, table.numbers, table.length};
-  // A map that is refused would measure nothing.
-  bool same = second_check(map).number == 0 && agree(map, out);
-  free(table.numbers);
-  free(out.numbers);
+static bool agree_on_match(struct second_map one, struct second_map other, struct list out) {
+  struct list plain_out = copied(out);
+  struct list second_out = copied(out);
+  struct plain_verdict plain =
+      plain_match(one.n, one.m, one.table, one.length, other.n, other.m, other.table, other.length,
+                  plain_out.numbers, plain_out.length);
+  struct second_verdict second = second_match(one, other, second_out.numbers, second_out.length);
+  bool same = plain.number == second.number && plain.place == second.place &&
+              same_lists(plain_out, second_out);
+  free(plain_out.numbers);
+  free(second_out.numbers);
   return same;
 }
 
@@ -128,17 +122,101 @@ static void require(bool same, const char *what, uint64_t which) {
   }
 }
 
-static uint64_t compare_cases(void) {
+// ---- Cases ----
+
+static struct second_map read_map(void) {
+  uint64_t n = read_number();
+  uint64_t m = read_number();
+  struct list table = read_list();
+  return (struct second_map){n, m, table.numbers, table.length};
+}
+
+static void drop_map(struct second_map map) {
+  free((void *)map.table);
+}
+
+static bool agree_on_sign_case(void) {
+  struct second_map map = read_map();
+  struct list out = read_list();
+  bool same = agree_on_signature(map, out);
+  drop_map(map);
+  free(out.numbers);
+  return same;
+}
+
+static bool agree_on_match_case(void) {
+  struct second_map first = read_map();
+  struct second_map second = read_map();
+  struct list out = read_list();
+  bool same = agree_on_match(first, second, out);
+  drop_map(first);
+  drop_map(second);
+  free(out.numbers);
+  return same;
+}
+
+struct compared {
+  uint64_t signs;
+  uint64_t matches;
+};
+
+static struct compared compare_cases(void) {
   char word[16];
-  uint64_t cases = 0;
+  struct compared cases = {0, 0};
   while (scanf("%15s", word) == 1) {
     if (strcmp(word, "sign") == 0) {
-      cases++;
-      require(agree_on_case(), "case", cases);
+      cases.signs++;
+      require(agree_on_sign_case(), "case sign", cases.signs);
+    } else if (strcmp(word, "match") == 0) {
+      cases.matches++;
+      require(agree_on_match_case(), "case match", cases.matches);
     }
     skip_line();
   }
   return cases;
+}
+
+// ---- What is measured ----
+
+// A map of the kind with its table still to be filled.
+static struct list new_table(const struct map_kind *kind) {
+  struct list table = new_list(kind->n * kind->m);
+  memset(table.numbers, 0, table.length * sizeof table.numbers[0]);
+  return table;
+}
+
+static struct second_map as_map(const struct map_kind *kind, struct list table) {
+  return (struct second_map){kind->n, kind->m, table.numbers, table.length};
+}
+
+static bool agree_on_map(const struct map_kind *kind, size_t which) {
+  struct list table = new_table(kind);
+  struct list out = new_table(kind);
+  map_fill(kind, which, table.numbers);
+  struct second_map map = as_map(kind, table);
+  // A map that is refused would measure nothing.
+  bool same = second_check(map).number == 0 && agree_on_signature(map, out);
+  free(table.numbers);
+  free(out.numbers);
+  return same;
+}
+
+// Twins must match, and strangers must get as far as being no match.
+static bool agree_on_pair(const struct pair_kind *pair, size_t which, enum pair_relation relation) {
+  const struct map_kind *kind = map_kind_named(pair->map_kind);
+  struct list first_table = new_table(kind);
+  struct list second_table = new_table(kind);
+  struct list out = new_table(kind);
+  pair_fill(pair, which, relation, first_table.numbers, second_table.numbers);
+  struct second_map first = as_map(kind, first_table);
+  struct second_map second = as_map(kind, second_table);
+  unsigned meant = relation == PAIR_TWIN ? 0 : 10;
+  bool same = agree_on_match(first, second, out) &&
+              second_match(first, second, out.numbers, out.length).number == meant;
+  free(first_table.numbers);
+  free(second_table.numbers);
+  free(out.numbers);
+  return same;
 }
 
 static uint64_t compare_maps(void) {
@@ -152,11 +230,26 @@ static uint64_t compare_maps(void) {
   return maps;
 }
 
+static uint64_t compare_pairs(void) {
+  uint64_t pairs = 0;
+  for (size_t at = 0; at < pair_kind_count; at++) {
+    const struct pair_kind *pair = &pair_kinds[at];
+    for (size_t which = 0; which < pair->pairs; which++) {
+      pairs += 2;
+      require(agree_on_pair(pair, which, PAIR_TWIN), pair->map_kind, which);
+      require(agree_on_pair(pair, which, PAIR_STRANGER), pair->map_kind, which);
+    }
+  }
+  return pairs;
+}
+
 int main(void) {
-  uint64_t cases = compare_cases();
+  struct compared cases = compare_cases();
   uint64_t maps = compare_maps();
-  printf("plain C and the second program agree on %" PRIu64 " cases and %" PRIu64 " maps\n", cases,
-         maps);
-  // Input that held no case has shown nothing.
-  return cases == 0 ? 1 : 0;
+  uint64_t pairs = compare_pairs();
+  printf("plain C and the second program agree on %" PRIu64 " signatures and %" PRIu64
+         " matches of cases, %" PRIu64 " maps and %" PRIu64 " pairs\n",
+         cases.signs, cases.matches, maps, pairs);
+  // Input that held no case of a call has shown nothing about it.
+  return cases.signs == 0 || cases.matches == 0 ? 1 : 0;
 }

@@ -1,4 +1,4 @@
-// The library's signature as the camera's C program calls it; the one place that declares it here.
+// The library's calls as the camera's C program makes them; the one place that declares them here.
 #ifndef LIBRARY_H
 #define LIBRARY_H
 

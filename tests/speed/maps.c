@@ -1,4 +1,5 @@
-// The shapes measured: rings, chains, grids, random planar maps and doubled maps of dimension 3.
+// The shapes measured: rings, chains, grids, random planar maps, doubled maps of dimension 3,
+// random maps of dimension 4, and the cases E and F of document 01.
 #include "maps.h"
 
 #include <stdbool.h>
@@ -47,6 +48,14 @@ static void fill_marked_ring(const struct map_kind *kind, uint16_t *table) {
 static void fill_chain(const struct map_kind *kind, uint16_t *table) {
   fill_ring(kind, table);
   *entry(kind, table, 1, kind->m) = 0;
+}
+
+// Case F: a square and a triangle that share an edge. Case E is a ring.
+static void fill_case_f(const struct map_kind *kind, uint16_t *table) {
+  clear(kind, table);
+  lay_face(kind, table, 1, 4);
+  lay_face(kind, table, 5, 3);
+  sew(kind, table, 2, 3, 5);
 }
 
 // ---- Grids of squares ----
@@ -226,6 +235,80 @@ static void fill_doubled_random(const struct map_kind *kind, uint16_t *table) {
   rename_darts(&chance, kind, table);
 }
 
+// ---- Random maps of any dimension ----
+
+// Rule 8: two sewings in turn, and again, lead back.
+static bool compositions_hold(const struct map_kind *kind, uint16_t *table) {
+  for (size_t dart = 1; dart <= kind->m; dart++) {
+    for (size_t i = 1; i + 2 <= kind->n; i++) {
+      for (size_t j = i + 2; j <= kind->n; j++) {
+        size_t across = *entry(kind, table, j, dart);
+        size_t other = across == 0 ? 0 : *entry(kind, table, i, across);
+        size_t back = other == 0 ? 0 : *entry(kind, table, j, other);
+        if (other != 0 && (back == 0 || *entry(kind, table, i, back) != dart)) {
+          return false;
+        }
+      }
+    }
+  }
+  return true;
+}
+
+static bool is_loose_end(const struct map_kind *kind, uint16_t *table, size_t i, size_t dart) {
+  if (i > 1) {
+    return *entry(kind, table, i, dart) == 0;
+  }
+  for (size_t before = 1; before <= kind->m; before++) {
+    if (*entry(kind, table, 1, before) == dart) {
+      return false;
+    }
+  }
+  return true;
+}
+
+// Sews only where both ends are loose and every composition still holds.
+static bool try_sew(const struct map_kind *kind, uint16_t *table, size_t i, size_t dart,
+                    size_t other) {
+  if (*entry(kind, table, i, dart) != 0 || !is_loose_end(kind, table, i, other)) {
+    return false;
+  }
+  sew(kind, table, i, dart, other);
+  if (compositions_hold(kind, table)) {
+    return true;
+  }
+  *entry(kind, table, i, dart) = 0;
+  if (i > 1) {
+    *entry(kind, table, i, other) = 0;
+  }
+  return false;
+}
+
+static bool try_any_sewing(struct chance *chance, const struct map_kind *kind, uint16_t *table,
+                           size_t dart, size_t other) {
+  size_t i = 1 + (size_t)chance_below(chance, kind->n);
+  bool turned = chance_below(chance, 2) == 0;
+  return turned ? try_sew(kind, table, i, other, dart) : try_sew(kind, table, i, dart, other);
+}
+
+// Each dart is sewn to an earlier one, which keeps the map in one piece; then some more sewings are
+// tried. A chain of beta 1 never closes while darts are added, so there is always a loose end.
+static void fill_grown(const struct map_kind *kind, uint16_t *table) {
+  struct chance chance = {kind->seed};
+  clear(kind, table);
+  for (size_t dart = 2; dart <= kind->m; dart++) {
+    size_t earlier = 1 + (size_t)chance_below(&chance, dart - 1);
+    while (!try_any_sewing(&chance, kind, table, dart, earlier)) {
+      earlier = 1 + (size_t)chance_below(&chance, dart - 1);
+    }
+  }
+  for (size_t tried = 0; tried < kind->m; tried++) {
+    size_t dart = 1 + (size_t)chance_below(&chance, kind->m);
+    size_t other = 1 + (size_t)chance_below(&chance, kind->m);
+    try_any_sewing(&chance, kind, table, dart, other);
+  }
+  rename_darts(&chance, kind, table);
+}
+
 // ---- The list ----
 
 const struct map_kind map_kinds[] = {
@@ -245,6 +328,12 @@ const struct map_kind map_kinds[] = {
     {"random-c", PART_SHAPES, 2, 510, fill_random, 0, 3, 1},
     {"doubled-n3", PART_SHAPES, 3, 340, fill_doubled_polygons, 0, 0, 1},
     {"doubled-random-n3", PART_SHAPES, 3, 340, fill_doubled_random, 0, 4, 1},
+    {"grown-n4", PART_SHAPES, 4, 255, fill_grown, 0, 21, 1},
+    {"case-E", PART_SMALL, 2, 3, fill_ring, 0, 0, 1},
+    {"case-F", PART_SMALL, 2, 7, fill_case_f, 0, 0, 1},
+    {"small-7", PART_SMALL, 2, 7, fill_random, 0, 41, 16},
+    {"small-16", PART_SMALL, 2, 16, fill_random, 0, 41, 16},
+    {"small-32", PART_SMALL, 2, 32, fill_random, 0, 41, 16},
     {"ring-32", PART_GROWTH, 2, 32, fill_ring, 0, 0, 1},
     {"ring-64", PART_GROWTH, 2, 64, fill_ring, 0, 0, 1},
     {"ring-128", PART_GROWTH, 2, 128, fill_ring, 0, 0, 1},
@@ -272,4 +361,9 @@ void map_fill(const struct map_kind *kind, size_t which, uint16_t *table) {
   struct map_kind one = *kind;
   one.seed += which;
   one.fill(&one, table);
+}
+
+void map_rename(const struct map_kind *kind, uint64_t seed, uint16_t *table) {
+  struct chance chance = {seed};
+  rename_darts(&chance, kind, table);
 }

@@ -1,4 +1,4 @@
-// The kinds of map whose signatures are counted; their tables are the same in every run.
+// The kinds of map that are measured; their tables are the same in every run.
 #ifndef MAPS_H
 #define MAPS_H
 
@@ -7,8 +7,9 @@
 
 enum { MOST_NUMBERS_OF_A_MAP = 1020, MOST_MAPS_OF_A_KIND = 16 };
 
-// Where a kind is shown: among the shapes, or in a series of one shape at growing dart counts.
-enum map_part { PART_SHAPES, PART_GROWTH };
+// Where the signature of a kind is shown: among the shapes, among the small maps, or in a series of
+// one shape at growing dart counts.
+enum map_part { PART_SHAPES, PART_SMALL, PART_GROWTH };
 
 struct map_kind {
   const char *name;
@@ -33,5 +34,8 @@ const struct map_kind *map_kind_named(const char *name);
 
 // Fills the table of one map of the kind, counted from 0.
 void map_fill(const struct map_kind *kind, size_t which, uint16_t *table);
+
+// Gives the darts other names, drawn from the seed.
+void map_rename(const struct map_kind *kind, uint64_t seed, uint16_t *table);
 
 #endif

@@ -3,6 +3,7 @@
 --     CheckedAs     the plain check
 --     SignedAs      the signature call
 --     MatchedAs     the match
+--     ListJudgedAs  the judging of a handed-in list
 -- Assumes nothing.
 use mathlib.Core.Path.{_≡_}
 use mathlib.Core.List.{List}
@@ -13,6 +14,7 @@ use Rattle.maps.specs.Verdict.{Verdict}
 use Rattle.labels.specs.Judging.{checkAnswer}
 use Rattle.words.specs.Sign.{signatureAnswer, signatureOutput}
 use Rattle.words.specs.Match.{matchAnswer, matchOutput}
+use Rattle.matches.specs.Judge.{judgeAnswer}
 use Rattle.reader.specs.declared.DuftheimSigned.{DuftheimSigned}
 use Rattle.reader.specs.declared.DuftheimVerdict.{DuftheimVerdict}
 
@@ -36,3 +38,6 @@ CheckedAs g r = ShownAs (checkAnswer g) r
 pub record MatchedAs (a b : Given) (before : List ℕ) (r : DuftheimVerdict) (after : List ℕ) : Type 0 where
   pub answer : ShownAs (matchAnswer a b (length before)) r
   pub written : after ≡ matchOutput a b before
+
+abbrev pub ListJudgedAs : Given → Given → List ℕ → DuftheimVerdict → Type 0
+ListJudgedAs a b f r = ShownAs (judgeAnswer a b f) r

@@ -1,7 +1,7 @@
 // The C boundary: the calls that the camera's program makes, on numbers and slices. include/duftheim.h declares them.
 ghost use Rattle.maps.specs.Given.{lent};
 ghost use Rattle.maps.specs.Answer.{verdictOf};
-ghost use Rattle.reader.specs.Boundary.{ShownAs, CheckedAs, SignedAs, MatchedAs};
+ghost use Rattle.reader.specs.Boundary.{ShownAs, CheckedAs, SignedAs, MatchedAs, ListJudgedAs};
 use maps::Judged;
 use words::Signed;
 
@@ -80,4 +80,19 @@ pub extern "C" fn duftheim_match(
 {
     let judged = words::match_maps(n, m, table, n2, m2, table2, output);
     shown(judged)
+}
+
+#[no_mangle]
+pub extern "C" fn duftheim_judge(
+    n: usize,
+    m: usize,
+    table: &[u16],
+    n2: usize,
+    m2: usize,
+    table2: &[u16],
+    list: &[u16],
+) -> DuftheimVerdict
+    ensures { λ r. ⌜ ListJudgedAs (lent n m (now (table .entry))) (lent n2 m2 (now (table2 .entry))) (now (list .entry)) r ⌝ }
+{
+    shown(matches::judge_list(n, m, table, n2, m2, table2, list))
 }

@@ -118,14 +118,15 @@ unfolding partsAt parts mapOf
 returns c =
     let read = c .before in
     let l = at-loop (first-read read) in
-    let hit = test-is read ∙ ap not (ne-eqb _ _ (c .if1 .taken)) in
-    sym (passes-some _ _ (l .loop .i + 1) (omega arith) (omega arith) hit)
+    let other = ne-eqb (read .before .before .image2 .result) (read .wide2 .result) (λ z. omega (arith, c .if1 .taken)) in
+    sym (passes-some _ _ (l .loop .i + 1) (omega arith) (omega arith) (test-is read ∙ ap not other))
 
 loop-again : tie.Need-loop-again Inv-loop μ-loop
 loop-again c =
     let read = c .before in
     let l = at-loop (first-read read) in
-    record { high = omega arith; so-far = passed-turn _ (l .loop .inv .so-far) (test-is read ∙ ap not (eq-eqb _ _ (c .if1 .left))) }
+    let same = eq-eqb (read .before .before .image2 .result) (read .wide2 .result) (omega (arith, c .if1 .left)) in
+    record { high = omega arith; so-far = passed-turn _ (l .loop .inv .so-far) (test-is read ∙ ap not same) }
 
 returns-2 : tie.Need-returns-2 Inv-loop μ-loop
 unfolding partsAt parts mapOf

@@ -1,9 +1,10 @@
 -- The laws of `specs/Rules.antt`: places of entries, the least entry that breaks a rule, and numbers 1 to 8 in their order.
 --     dartAt-placeOf, sewingAt-placeOf     the dart and the sewing of an entry's place
---     place-next, place-row                the place after an entry's: the next sewing, or the next dart's first
+--     lowOf-low, spoken                    no rule is broken by a sewing below the least that it speaks of
 --     unanswered-.., parted-..             how the tests of 7 and 8 come out, by what the sewings are
 --     clash-entry, clash-none              rule 6, judged dart by dart
 --     Kept, wrongEntry-none                no entry breaks a rule, exactly when it finds no wrong one
+--     wrongEntry-row, wrongEntry-rows      the wrong entry, searched for row by row
 --     wrongDart, judgedBy-dart             else it names the least dart with an entry that breaks it, over all sewings
 --     over-none                            what rule 5 leaves
 --     Pass, rules-found, rules-none        the entries' verdict, by the wrong entry of each rule in turn
@@ -15,22 +16,25 @@ use Prim.Native.Nat.{ℕ, zero, suc, suc-le-suc, _+_, _-_, _*_, _/_, _%_, _≤_,
 use mathlib.Core.Path.{_≡_, refl, sym, ap, _∙_}
 use mathlib.Core.Bool.{Bool, true, false, not, _&&_}
 use mathlib.Core.List.{List, [], _∷_, _++_, map}
-use mathlib.Core.Logic.{_↔_, _⊎_, inl, inr}
+use mathlib.Core.Logic.{_↔_, _⊎_, inl, inr, ⊎-elim}
 use native.Mathlib.Omega.{arith}
-use native.Mathlib.Nat.{mul-add-div-right, mul-add-mod-self-right, div-eq-of-lt, mod-eq-of-lt, suc-mul, le-trans, le-of-suc-le, mul-le-mul-right, div-lt-iff-lt-mul, div-mul-le-self, mod-lt, mul-comm, eq-zero-or-pos}
+use native.Mathlib.Nat.{mul-add-div-right, mul-add-mod-self-right, div-eq-of-lt, mod-eq-of-lt, suc-mul, le-trans, le-of-suc-le, mul-le-mul-right, div-lt-iff-lt-mul, div-mul-le-self, div-add-mod', mod-lt, mul-comm, eq-zero-or-pos, eq-or-lt-of-le}
 use borrow.Author.Tests.{eq-eqb, ne-eqb, eqb-true, le-leb, lt-leb, lt-ltb, ltb-true, ltb-false}
 use lib.Dec.{eqb, leb, ltb}
 use lib.ListN.{length}
 use Rattle.maps.specs.Least.{least, some}
-use Rattle.maps.specs.Map.{Map, sew}
+use Rattle.maps.specs.Map.{Map, IsDart, sew}
 use Rattle.maps.specs.Given.{Given, placeOf, mapOf}
 use Rattle.maps.specs.Verdict.{Verdict, accepted, refused, accepts, unless, atLeast, inOrder}
 use Rattle.maps.specs.Accepted.{ToDarts}
 use Rattle.maps.specs.Lines.{Entry}
-use Rattle.maps.specs.Rules.{judgeDimension, judgeSize, judgeLength, judgeShape, judgeOutput, Rule, exceeds, givenBefore, unanswered, parted, overRule, clashRule, dartAt, sewingAt, wrongEntry, shownPlace, judgedBy, judgeEntries, judgeSewing}
+use Rattle.maps.specs.Rules.{judgeDimension, judgeSize, judgeLength, judgeShape, judgeOutput, Rule, exceeds, givenBefore, unanswered, parted, composesWrong, overRule, clashRule, dartAt, sewingAt, wrongEntry, shownPlace, judgedBy, judgeEntries, judgeSewing}
+use Rattle.maps.specs.Inside.{ruleOf, lowOf, wrongSewing}
+use Rattle.maps.specs.declared.Law.{Law}
+use Rattle.maps.specs.declared.Law.the-variants.{Bounded, Reversed, Composed}
 use Rattle.maps.specs.declared.Output.{Output}
 use Rattle.maps.specs.declared.Output.the-variants.{Nothing, Word, Images}
-use Rattle.maps.proofs.Least.{Tested, passes, fails, tested, true-not-false, Misses, Found, Passed, passed-misses, least-none, none-least, least-found, least-is, passes-some, misses-some}
+use Rattle.maps.proofs.Least.{Tested, passes, fails, tested, true-not-false, Misses, Found, Passed, passed-misses, least-none, none-least, least-found, least-is, passes-some, misses-some, some-misses}
 use Rattle.maps.proofs.Map.{back-dart, sewn-dart, sewn-low}
 use Rattle.maps.proofs.Verdict.{inOrder-passed, inOrder-first, inOrder-accepts, inOrder-one, unless-refused, unless-accepts}
 
@@ -49,16 +53,6 @@ module _ (n d i : ℕ) (dim : 1 ≤ n) (low : 1 ≤ i) (high : i ≤ n) where
   unfolding sewingAt
   sewingAt-placeOf =
       rw (before-place, mul-add-mod-self-right (d - 1) n (i - 1), mod-eq-of-lt {n = i - 1} {m = n} (omega arith)) (omega arith)
-
-pub place-next : (n d i p : ℕ) → p ≡ placeOf n d i → p + 1 ≡ placeOf n d (i + 1)
-unfolding placeOf
-place-next n d i p e = omega arith
-
-pub place-row : (n d i p : ℕ) → 1 ≤ d → p ≡ placeOf n d i → i ≡ n → p + 1 ≡ placeOf n (d + 1) 1
-unfolding placeOf
-place-row n d i p dart e end =
-    let row : d + 1 - 1 ≡ suc (d - 1) = omega arith in
-    rw (row, suc-mul) (omega arith)
 
 -- places before a dart's first entry are those of lower darts
 pub dartAt-below : (n d p : ℕ) → 1 ≤ n → 1 ≤ p → 1 ≤ d → p < placeOf n d 1 → dartAt n p < d
@@ -133,6 +127,19 @@ module _ (M : Map) (d i : ℕ) where
       let sewn : ltb 0 e ≡ true = lt-ltb 0 e (omega arith) in
       simp (le-leb 2 i h, ← there, sewn, ← back)
 
+pub lowOf-low : (law : Law) → 1 ≤ lowOf law
+unfolding lowOf
+lowOf-low Bounded = omega arith
+lowOf-low Reversed = omega arith
+lowOf-low Composed = omega arith
+
+-- no rule is broken by a sewing below the least that it speaks of
+pub spoken : (law : Law) (M : Map) (d : ℕ) → Passed (λ i. ruleOf law .broken M d i) (lowOf law)
+unfolding ruleOf lowOf composesWrong some least
+spoken Bounded M d i low below = absurd (omega arith)
+spoken Reversed M d i low below = sym (unanswered-first M d i below)
+spoken Composed M d i low below = let none : i - 2 ≡ 0 = omega arith in rw none refl
+
 module _ (M : Map) (i j d x e : ℕ) (first : x ≡ sew M j d) (second : e ≡ sew M i x) where
   pub parted-unsewn : e ≡ 0 → false ≡ parted M i j d
   unfolding parted
@@ -170,6 +177,24 @@ sewingAt-low n p = omega arith
 sewingAt-high : (n p : ℕ) → 1 ≤ n → sewingAt n p ≤ n
 unfolding sewingAt
 sewingAt-high n p dim = omega (arith, mod-lt (p - 1) dim)
+
+-- what stands before an entry is of a lower dart, or of a lower sewing of the same
+place-order : (n d i p : ℕ) → 1 ≤ d → i ≤ n → 1 ≤ p → p < placeOf n d i → (dartAt n p < d) ⊎ ((dartAt n p ≡ d) × (sewingAt n p < i))
+unfolding placeOf dartAt sewingAt
+place-order n d i p dart in-row one below = at (tested (ltb (dartAt n p) d))
+  where
+    same : d ≤ dartAt n p → dartAt n p ≡ d
+    same up = ⊎-elim (λ e. sym e) (λ h. absurd (omega (arith, below, place-below n d i p dart in-row one h))) (eq-or-lt-of-le up)
+
+    before-sewing : dartAt n p ≡ d → sewingAt n p < i
+    before-sewing e =
+        let q : (p - 1) / n ≡ d - 1 = omega arith in
+        let row : (d - 1) * n + (p - 1) % n ≡ p - 1 = rw q at (div-add-mod' (p - 1) n) in
+        omega (arith, row, below)
+
+    at : Tested (ltb (dartAt n p) d) → (dartAt n p < d) ⊎ ((dartAt n p ≡ d) × (sewingAt n p < i))
+    at (passes lower) = inl (ltb-true (dartAt n p) d lower)
+    at (fails up) = let is = same (ltb-false (dartAt n p) d up) in inr (is, before-sewing is)
 
 -- no entry breaks the rule
 abbrev pub Kept : Map → Rule → Type 0
@@ -221,6 +246,25 @@ module _ (M : Map) (r : Rule) (dim : 1 ≤ M .dim) where
   pub wrongEntry-none : (wrongEntry M r ≡ 0) ↔ Kept M r
   unfolding wrongEntry
   wrongEntry-none = (λ e. missed-kept (least-none (atPlace M r) _ e), λ k. none-least (atPlace M r) _ (kept-missed k))
+
+  -- searched for row by row: no row does, or it stands in the first that does
+  pub wrongEntry-rows : Misses (atDart M r) (M .darts) → wrongEntry M r ≡ 0
+  wrongEntry-rows none = wrongEntry-none .1 (λ d i e. some-misses _ _ (none d (e .0 .0) (e .0 .1)) i (e .1) (e .2))
+
+  pub wrongEntry-row : (d i : ℕ) → IsDart M d → Passed (atDart M r) d → Found (λ j. r .broken M d j) (M .dim) i → wrongEntry M r ≡ placeOf (M .dim) d i
+  unfolding wrongEntry
+  wrongEntry-row d i dart so-far f =
+      least-is (atPlace M r) _
+      (record {
+        low = place-low (M .dim) d i (f .low);
+        high = place-high (M .dim) (M .darts) d i (dart .0) (dart .1) (f .high);
+        hit = atPlace-entry d i (dart, f .low, f .high) ∙ f .hit;
+        before = λ p one below. at p (place-order (M .dim) d i p (dart .0) (f .high) one below);
+      })
+    where
+      at : (p : ℕ) → (dartAt (M .dim) p < d) ⊎ ((dartAt (M .dim) p ≡ d) × (sewingAt (M .dim) p < i)) → atPlace M r p ≡ false
+      at p (inl lower) = some-misses _ _ (so-far (dartAt (M .dim) p) (dartAt-low (M .dim) p) lower) (sewingAt (M .dim) p) (sewingAt-low (M .dim) p) (sewingAt-high (M .dim) p dim)
+      at p (inr (same, less)) = rw (atPlace, same) (f .before (sewingAt (M .dim) p) (sewingAt-low (M .dim) p) less)
 
   -- else the dart of the wrong entry is the least that has one, over all sewings
   pub wrongEntry-dart : 0 < wrongEntry M r → dartAt (M .dim) (wrongEntry M r) ≡ wrongDart M r

@@ -2,12 +2,14 @@
 --     InTable g i        βi is a sewing of a table in shape
 --     Blank g back       a table in shape that rule 5 has passed, and an array of zeros for β0
 --     BackAs             rule 6 judged while β0 is found
---     ruleOf             the rule that a `Law` stands for
+--     ruleOf, lowOf      the rule that a `Law` stands for, and the least sewing that it speaks of
+--     wrongSewing        the least sewing of a dart that breaks a rule, or 0
 -- Assumes nothing.
 use Prim.Native.Nat.{ℕ, _≤_}
 use mathlib.Core.Path.{_≡_}
 use mathlib.Core.List.{List}
 use lib.ListN.{replicate}
+use Rattle.maps.specs.Least.{least}
 use Rattle.maps.specs.Map.{Map}
 use Rattle.maps.specs.Given.{Given, mapOf, Shaped}
 use Rattle.maps.specs.Accepted.{ToDarts}
@@ -38,3 +40,13 @@ unfoldable pub ruleOf : Law → Rule
 ruleOf Bounded = overRule
 ruleOf Reversed = reverseRule
 ruleOf Composed = composeRule
+
+-- 5 speaks of every sewing, 7 of β2 and up, and 8 has two sewings below its own
+unfoldable pub lowOf : Law → ℕ
+lowOf Bounded = 1
+lowOf Reversed = 2
+lowOf Composed = 3
+
+-- the least sewing of d that breaks the rule, or 0
+unfoldable pub wrongSewing : Map → Rule → ℕ → ℕ
+wrongSewing M r d = least (M .dim) (λ i. r .broken M d i)

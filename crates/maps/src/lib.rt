@@ -7,7 +7,7 @@ ghost use Rattle.maps.specs.Given.{lent, mapOf, Shaped};
 ghost use Rattle.maps.specs.Verdict.{accepts};
 ghost use Rattle.maps.specs.Rules.{unanswered, parted, composesWrong, dartAt, wrongEntry, judgeOutput, judgeEntries, judgeSewing};
 ghost use Rattle.maps.specs.Answer.{JudgedAs};
-ghost use Rattle.maps.specs.Inside.{InTable, Blank, BackAs, ruleOf};
+ghost use Rattle.maps.specs.Inside.{InTable, Blank, BackAs, ruleOf, lowOf, wrongSewing};
 
 // A verdict: passed, or refused with document 01's number and place.
 pub enum Judged {
@@ -103,25 +103,44 @@ fn breaks(law: Law, n: usize, m: usize, table: &[u16], d: usize, i: usize) -> bo
     }
 }
 
+// The least sewing that a rule speaks of.
+fn least_sewing(law: Law) -> usize
+    ensures { λ r. ⌜ r ≡ lowOf law ⌝ }
+{
+    match law {
+        Law::Bounded => 1,
+        Law::Reversed => 2,
+        Law::Composed => 3,
+    }
+}
+
+// The least sewing of d that breaks a rule, or 0.
+fn wrong_sewing(law: Law, n: usize, m: usize, table: &[u16], d: usize) -> usize
+    requires { ⌜ Shaped (lent n m (now table)) ⌝ }
+    ensures { λ r. ⌜ r ≡ wrongSewing (mapOf (lent n m (now (table .entry)))) (ruleOf law) d ⌝ }
+{
+    let mut i = least_sewing(law);
+    while i <= n {
+        if breaks(law, n, m, table, d, i) {
+            return i;
+        }
+        i += 1;
+    }
+    0
+}
+
 // The place of the least entry that breaks a rule, or 0.
 fn wrong_entry(law: Law, n: usize, m: usize, table: &[u16]) -> usize
     requires { ⌜ Shaped (lent n m (now table)) ⌝ }
     ensures { λ r. ⌜ r ≡ wrongEntry (mapOf (lent n m (now (table .entry)))) (ruleOf law) ⌝ }
 {
-    let mut p = 1;
     let mut d = 1;
-    let mut i = 1;
-    while p <= table.len() {
-        if breaks(law, n, m, table, d, i) {
-            return p;
+    while d <= m {
+        let i = wrong_sewing(law, n, m, table, d);
+        if i != 0 {
+            return (d - 1) * n + i;
         }
-        p += 1;
-        if i < n {
-            i += 1;
-        } else {
-            i = 1;
-            d += 1;
-        }
+        d += 1;
     }
     0
 }

@@ -1,92 +1,78 @@
--- `maps::wrong_entry` meets its contract: entries are passed in the order of their places, p beside its dart d and sewing i.
--- Assumes nothing.
-use Prim.Native.Nat.{ℕ, _+_, _-_, _≤_, _<_}
-use mathlib.Core.Path.{_≡_, _∙_, ap, sym}
-use mathlib.Core.Bool.{Bool, true, false}
+-- `maps::wrong_entry` meets its contract: the search for a dart that has a wrong entry, from dart 1 upwards. Assumes nothing.
+use Prim.Native.Nat.{ℕ, _+_, _-_, _*_, _≤_, _<_}
+use mathlib.Core.Path.{_≡_, _∙_, sym}
+use mathlib.Core.Bool.{true, false}
+use native.Mathlib.Nat.{pos-of-ne-zero}
 use native.Mathlib.Omega.{arith}
-use lib.ListN.{length}
 use Rattle.maps.specs.Map.{Map}
-use Rattle.maps.specs.Rules.{Rule, dartAt, sewingAt, wrongEntry}
 use Rattle.maps.specs.Given.{lent, placeOf, mapOf}
-use Rattle.maps.specs.Inside.{ruleOf}
-use Rattle.maps.proofs.Least.{Passed, passed-start, passed-turn, passed-misses, passed-found, least-is, none-least}
-use Rattle.maps.proofs.Rules.{dartAt-placeOf, sewingAt-placeOf, place-next, place-row}
+use Rattle.maps.specs.Rules.{Rule, wrongEntry}
+use Rattle.maps.specs.Inside.{ruleOf, wrongSewing}
+use Rattle.maps.proofs.Least.{Found, Passed, passed-start, passed-turn, passed-misses, least-found, least-none, misses-some}
+use Rattle.maps.proofs.Accepted.{darts-most}
+use Rattle.maps.proofs.Given.{in-table}
+use Rattle.maps.proofs.Rules.{atDart, wrongEntry-row, wrongEntry-rows}
 use Rattle.maps.proofs.wrong_entry.Statement.{statement}
 use Rattle.maps.proofs.wrong_entry.Tie as tie
 
--- the rule at the entry of place q
-abbrev At : Map → ℕ → Rule → ℕ → Bool
-At M n r q = r .broken M (dartAt n q) (sewingAt n q)
+-- no dart below d has an entry that breaks the rule
+record Seeking (M : Map) (r : Rule) (d : ℕ) : Type 0 where
+  low : 1 ≤ d
+  so-far : Passed (atDart M r) d
 
--- p is the place of βi(d), and no entry before it breaks the rule
-record Seeking (M : Map) (n : ℕ) (r : Rule) (p d i : ℕ) : Type 0 where
-  place : p ≡ placeOf n d i
-  dart : 1 ≤ d
-  low : 1 ≤ i
-  high : i ≤ n
-  few : d ≤ p
-  so-far : Passed (At M n r) p
+module _ (M : Map) (r : Rule) (d i : ℕ) (is : i ≡ wrongSewing M r d) where
+  -- the least sewing of d that breaks the rule
+  row-found : (i ≡ 0 → ⊥) → Found (λ j. r .broken M d j) (M .dim) i
+  unfolding wrongSewing
+  row-found some = rw is (least-found _ _ (rw (← is) (pos-of-ne-zero some)))
 
--- the test at place p is the test at βi(d)
-here : {M : Map} {n : ℕ} {r : Rule} {p d i : ℕ} → Seeking M n r p d i → (b : Bool) → b ≡ r .broken M d i → At M n r p ≡ b
-here {n = n} {p = p} {d = d} {i = i} s b is =
-    let dim : 1 ≤ n = omega arith in
-    let dart : dartAt n p ≡ d = ap (dartAt n) (s .place) ∙ dartAt-placeOf n d i dim (s .low) (s .high) (s .dart) in
-    let sewing : sewingAt n p ≡ i = ap (sewingAt n) (s .place) ∙ sewingAt-placeOf n d i dim (s .low) (s .high) in
-    cc
+  -- or none does
+  row-missed : i ≡ 0 → atDart M r d ≡ false
+  unfolding wrongSewing
+  row-missed none = misses-some _ _ (least-none _ _ (sym is ∙ none))
 
 abbrev Inv-loop : tie.InvT-loop
-Inv-loop law n m table p₀ d₀ i₀ p d i = Seeking (mapOf (lent n m table)) n (ruleOf law) p d i
+Inv-loop law n m table d₀ d = Seeking (mapOf (lent n m table)) (ruleOf law) d
 
 abbrev μ-loop : tie.MeasureT-loop
-μ-loop law n m table p₀ d₀ i₀ p d i = length table + 1 - p
+μ-loop law n m table d₀ d = m + 1 - d
 
-loop-holds : tie.Need-loop-holds Inv-loop μ-loop
-unfolding placeOf
-loop-holds c =
-    record { place = omega arith; dart = omega arith; low = omega arith; high = omega arith; few = omega arith; so-far = passed-start _ }
+-- the places of this proof
+abbrev start : tie.At-loop Inv-loop μ-loop → tie.Start Inv-loop μ-loop
+start c = c .before .before
 
-breaks-requires : tie.Need-breaks-requires Inv-loop μ-loop
-breaks-requires c κs =
-    let at-loop = c .before in
-    record { shaped = at-loop .before .before .pre; low = at-loop .loop .inv .low; high = at-loop .loop .inv .high }
+abbrev at-loop : tie.Then1 Inv-loop μ-loop → tie.At-loop Inv-loop μ-loop
+at-loop c = c .before .before .before
+
+abbrev map-of : tie.At-loop Inv-loop μ-loop → Map
+map-of c = let a = start c .args in mapOf (lent (a .n) (a .m) (a .table .now))
+
+found : (c : tie.Then1 Inv-loop μ-loop) → Found (λ j. ruleOf (start (at-loop c) .args .law) .broken (map-of (at-loop c)) (at-loop c .loop .d) j) (start (at-loop c) .args .n) (c .before .wrong-sewing .result)
+unfolding mapOf
+found c = row-found _ _ _ _ (c .before .wrong-sewing .ensures) (c .if1 .taken)
+
+-- the wrong entry is inside the table
+inside : (c : tie.Then1 Inv-loop μ-loop) → (at-loop c .loop .d - 1) * start (at-loop c) .args .n + c .before .wrong-sewing .result ≤ 1020
+inside c =
+    let shaped = start (at-loop c) .pre in
+    let f = found c in
+    omega (arith, in-table shaped (at-loop c .loop .d) (c .before .wrong-sewing .result) (omega arith) (omega arith) (f .low) (f .high), shaped .long)
 
 returns : tie.Need-returns Inv-loop μ-loop
-unfolding wrongEntry mapOf
+unfolding mapOf placeOf
 returns c =
-    let inv = c .before .before .before .loop .inv in
-    let hit = here inv true (sym (c .if1 .taken) ∙ c .before .breaks .ensures) in
-    sym (least-is _ _ (passed-found _ (inv .so-far) (omega arith) (omega arith) hit))
+    let inv = at-loop c .loop .inv in
+    sym (wrongEntry-row _ _ (start (at-loop c) .pre .bounds .dim-least) _ _ (inv .low, omega arith) (inv .so-far) (found c))
 
 loop-again : tie.Need-loop-again Inv-loop μ-loop
 loop-again c =
-    let inv = c .before .before .before .before .loop .inv in
-    let miss = here inv false (sym (c .before .if1 .left) ∙ c .before .before .breaks .ensures) in
-    record {
-      place = place-next _ _ _ _ (inv .place);
-      dart = inv .dart;
-      low = omega arith;
-      high = omega arith;
-      few = omega arith;
-      so-far = passed-turn _ (inv .so-far) miss;
-    }
-
-loop-again-2 : tie.Need-loop-again-2 Inv-loop μ-loop
-loop-again-2 c =
-    let inv = c .before .before .before .before .loop .inv in
-    let miss = here inv false (sym (c .before .if1 .left) ∙ c .before .before .breaks .ensures) in
-    record {
-      place = place-row _ _ _ _ (inv .dart) (inv .place) (omega arith);
-      dart = omega arith;
-      low = omega arith;
-      high = omega arith;
-      few = omega arith;
-      so-far = passed-turn _ (inv .so-far) miss;
-    }
+    let inv = c .before .before .before .loop .inv in
+    record { low = omega arith; so-far = passed-turn _ (inv .so-far) (row-missed _ _ _ _ (c .before .wrong-sewing .ensures) (c .if1 .left)) }
 
 returns-2 : tie.Need-returns-2 Inv-loop μ-loop
-unfolding wrongEntry mapOf
-returns-2 c = sym (none-least _ _ (passed-misses _ (c .before .loop .inv .so-far) (omega arith)))
+unfolding mapOf
+returns-2 c =
+    sym (wrongEntry-rows _ _ (start (c .before) .pre .bounds .dim-least) (passed-misses _ (c .before .loop .inv .so-far) (omega arith)))
 
 pub wrong-entry-spec : {M : Type 1} → statement M
 wrong-entry-spec =
@@ -94,14 +80,13 @@ wrong-entry-spec =
     (tie.spec
     Inv-loop
     μ-loop
-    loop-holds
-    breaks-requires
+    (λ c. record { low = omega arith; so-far = passed-start _ })
+    (λ c κs. start (c .before) .pre)
+    (λ c. omega arith)
+    (λ c. omega (arith, inside c))
+    (λ c. omega (arith, inside c))
     returns
-    (λ c. omega arith)
-    (λ c. omega arith)
+    (λ c. omega (arith, darts-most (start (c .before .before .before) .pre .bounds)))
     (λ c. omega arith)
     loop-again
-    (λ c. omega arith)
-    (λ c. omega arith)
-    loop-again-2
     returns-2)

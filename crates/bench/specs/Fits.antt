@@ -1,12 +1,15 @@
 -- What was read fits the room that was lent for it.
 --     ListFits    of a list
 --     MapFits     of a map's table
+--     PairFits    of two maps' tables and the list after them
 -- Assumes nothing.
 use Prim.Native.Nat.{ℕ, _≤_}
 use Rattle.bench.specs.declared.read.Numbers.{Numbers}
 use Rattle.bench.specs.declared.read.Numbers.the-variants.{Read, Wrong}
 use Rattle.bench.specs.declared.read.Map.{Map}
 use Rattle.bench.specs.declared.read.Map.the-variants.{Read as MapRead, Wrong as MapWrong}
+use Rattle.bench.specs.declared.pairs.Pair.{Pair}
+use Rattle.bench.specs.declared.pairs.Pair.the-variants.{Read as PairRead, Wrong as PairWrong}
 
 -- a list that was read is no longer than the room
 abbrev pub ListFits : ℕ → Numbers → Type 0
@@ -17,3 +20,8 @@ ListFits room Wrong = Unit
 abbrev pub MapFits : ℕ → Map → Type 0
 MapFits room (MapRead n m length next) = length ≤ room
 MapFits room MapWrong = Unit
+
+-- the two tables and the list of a case that was read are no longer than the rooms
+abbrev pub PairFits : ℕ → ℕ → ℕ → Pair → Type 0
+PairFits room room2 room3 (PairRead n m length n2 m2 length2 count) = (length ≤ room) × ((length2 ≤ room2) × (count ≤ room3))
+PairFits room room2 room3 PairWrong = Unit

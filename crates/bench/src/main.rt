@@ -1,7 +1,7 @@
 // Reads cases from standard input, in the form of tests/CASES.md, and prints the line of each.
-// It answers `check` and `sign`. Any other call, a line that is malformed or too long, and a list of more than 2,048 numbers print `?`.
-ghost use Prim.Native.Nat.{_≤_};
-
+// It answers `check`, `sign`, `match` and `judge`. Any other call, a line that is malformed or too long, and a list of more than
+// 2,048 numbers print `?`.
+mod pairs;
 mod print;
 mod read;
 
@@ -19,52 +19,20 @@ fn copy(line: &[u8]) {
     io::write_all(STDOUT_FILENO, b"\n");
 }
 
-fn refuse() {
-    io::write_all(STDOUT_FILENO, b"?\n");
-}
-
-fn number_of(judged: Judged) -> u64 {
-    match judged {
-        Judged::Passed => 0,
-        Judged::Refused { number, place: _ } => number as u64,
-    }
-}
-
-fn place_of(judged: Judged) -> u64 {
-    match judged {
-        Judged::Passed => 0,
-        Judged::Refused { number: _, place } => place as u64,
-    }
-}
-
-// The number and the place, from the start of the buffer. Answers where the next byte goes.
-fn put_judged(out: &mut [u8; 4096], judged: Judged) -> usize
-    ensures { λ r. ⌜ r ≤ 4096 ⌝ }
-{
-    let number = print::decimal(out, 0, number_of(judged));
-    print::spaced(out, number, place_of(judged))
-}
-
-fn print_judged(judged: Judged) {
-    let mut out = [0u8; 4096];
-    let end = put_judged(&mut out, judged);
-    print::newline(&mut out, end);
-}
-
 // `check N M TABLE`, and nothing after it.
 fn answer_check(line: &[u8]) {
     let Step::To(word) = Cursor::start().word(line, b"check") else {
-        return refuse();
+        return print::refuse();
     };
     // A table may have more numbers than the 1,020 of the longest map, and is then judged all the same.
     let mut table = [0u16; 2048];
     let Map::Read { n, m, length, next } = word.map(line, &mut table) else {
-        return refuse();
+        return print::refuse();
     };
     if next.at != line.len() {
-        return refuse();
+        return print::refuse();
     }
-    print_judged(labels::check(n, m, &table[0..length]));
+    print::judged_line(labels::check(n, m, &table[0..length]));
 }
 
 // A refusal has no start and no symmetries, and 0 is printed for each.
@@ -106,12 +74,10 @@ fn judged_of(signed: Signed) -> Judged {
 
 fn print_signed(signed: Signed, output: &[u16]) {
     let mut out = [0u8; 4096];
-    let judged = put_judged(&mut out, judged_of(signed));
+    let judged = print::judged_start(&mut out, judged_of(signed));
     let start = print::spaced(&mut out, judged, start_of(signed));
     let symmetries = print::spaced(&mut out, start, symmetries_of(signed));
-    let space = print::byte(&mut out, symmetries, b' ');
-    let list = print::list(&mut out, space, output);
-    print::newline(&mut out, list);
+    print::last_list(&mut out, symmetries, output);
 }
 
 fn sign(n: usize, m: usize, table: &[u16], output: &mut [u16]) {
@@ -122,11 +88,11 @@ fn sign(n: usize, m: usize, table: &[u16], output: &mut [u16]) {
 // `sign N M TABLE OUTPUT`, and nothing after it.
 fn answer_sign(line: &[u8]) {
     let Step::To(word) = Cursor::start().word(line, b"sign") else {
-        return refuse();
+        return print::refuse();
     };
     let mut table = [0u16; 2048];
     let Map::Read { n, m, length, next } = word.map(line, &mut table) else {
-        return refuse();
+        return print::refuse();
     };
     let mut output = [0u16; 2048];
     let Numbers::Read {
@@ -134,10 +100,10 @@ fn answer_sign(line: &[u8]) {
         next: end,
     } = next.list(line, &mut output)
     else {
-        return refuse();
+        return print::refuse();
     };
     if end.at != line.len() {
-        return refuse();
+        return print::refuse();
     }
     sign(n, m, &table[0..length], &mut output[0..room]);
 }
@@ -151,14 +117,16 @@ fn answer(line: &[u8]) {
         b'#' => copy(line),
         b'c' => answer_check(line),
         b's' => answer_sign(line),
-        _ => refuse(),
+        b'm' => pairs::answer_match(line),
+        b'j' => pairs::answer_judge(line),
+        _ => print::refuse(),
     }
 }
 
 // A line at its end. A length above the buffer's stands for a line that did not fit.
 fn end_line(line: &[u8], length: usize) {
     if line.len() < length {
-        return refuse();
+        return print::refuse();
     }
     answer(&line[0..length]);
 }

@@ -1,7 +1,14 @@
-// Numbers as text, gathered in a buffer that is written out where it is full and at the end of a line.
+// The lines that are printed. Their numbers are gathered as text in a buffer that is written out where it is full and at the end
+// of a line.
 ghost use Prim.Native.Nat.{_≤_, _<_};
 ghost use lib.ListN.{length};
 use libc::STDOUT_FILENO;
+use maps::Judged;
+
+// The line of a case that is not answered.
+pub(crate) fn refuse() {
+    io::write_all(STDOUT_FILENO, b"?\n");
+}
 
 fn flush(out: &[u8], at: usize)
     requires { ⌜ at ≤ length (now out) ⌝ }
@@ -10,7 +17,7 @@ fn flush(out: &[u8], at: usize)
 }
 
 // Puts a byte at `at`, and answers where the next one goes.
-pub(crate) fn byte(out: &mut [u8; 4096], at: usize, b: u8) -> usize
+fn byte(out: &mut [u8; 4096], at: usize, b: u8) -> usize
     requires { ⌜ at ≤ 4096 ⌝ }
     ensures { λ r. ⌜ r ≤ 4096 ⌝ }
 {
@@ -36,7 +43,7 @@ fn bytes(out: &mut [u8; 4096], at: usize, text: &[u8]) -> usize
     to
 }
 
-pub(crate) fn decimal(out: &mut [u8; 4096], at: usize, n: u64) -> usize
+fn decimal(out: &mut [u8; 4096], at: usize, n: u64) -> usize
     requires { ⌜ at ≤ 4096 ⌝ }
     ensures { λ r. ⌜ r ≤ 4096 ⌝ }
 {
@@ -46,7 +53,7 @@ pub(crate) fn decimal(out: &mut [u8; 4096], at: usize, n: u64) -> usize
 }
 
 // Ends the line, and writes out what is left of it.
-pub(crate) fn newline(out: &mut [u8; 4096], at: usize)
+fn newline(out: &mut [u8; 4096], at: usize)
     requires { ⌜ at ≤ 4096 ⌝ }
 {
     let end = byte(out, at, b'\n');
@@ -110,7 +117,7 @@ fn run(out: &mut [u8; 4096], at: usize, n: u64, times: usize) -> usize
 }
 
 // A list: its length and its numbers, by runs.
-pub(crate) fn list(out: &mut [u8; 4096], at: usize, numbers: &[u16]) -> usize
+fn list(out: &mut [u8; 4096], at: usize, numbers: &[u16]) -> usize
     requires { ⌜ at ≤ 4096 ⌝ }
     ensures { λ r. ⌜ r ≤ 4096 ⌝ }
 {
@@ -122,4 +129,42 @@ pub(crate) fn list(out: &mut [u8; 4096], at: usize, numbers: &[u16]) -> usize
         from = end;
     }
     to
+}
+
+// A space, a list, and the line's end.
+pub(crate) fn last_list(out: &mut [u8; 4096], at: usize, numbers: &[u16])
+    requires { ⌜ at ≤ 4096 ⌝ }
+{
+    let space = byte(out, at, b' ');
+    let end = list(out, space, numbers);
+    newline(out, end);
+}
+
+fn number_of(judged: Judged) -> u64 {
+    match judged {
+        Judged::Passed => 0,
+        Judged::Refused { number, place: _ } => number as u64,
+    }
+}
+
+fn place_of(judged: Judged) -> u64 {
+    match judged {
+        Judged::Passed => 0,
+        Judged::Refused { number: _, place } => place as u64,
+    }
+}
+
+// The number and the place, from the start of the buffer. Answers where the next byte goes.
+pub(crate) fn judged_start(out: &mut [u8; 4096], judged: Judged) -> usize
+    ensures { λ r. ⌜ r ≤ 4096 ⌝ }
+{
+    let number = decimal(out, 0, number_of(judged));
+    spaced(out, number, place_of(judged))
+}
+
+// A line that has no more than the number and the place.
+pub(crate) fn judged_line(judged: Judged) {
+    let mut out = [0u8; 4096];
+    let end = judged_start(&mut out, judged);
+    newline(&mut out, end);
 }

@@ -2,3 +2,6 @@
 pub mod Opened
 pub mod Run
 pub mod Refused
+pub mod Record
+pub mod Reading
+pub mod Theorems

@@ -3,3 +3,4 @@ pub mod Record
 pub mod Drawer
 pub mod Lines
 pub mod Plain
+pub mod Theorems

@@ -1,0 +1,25 @@
+-- The theorems of `specs/Theorems.antt`. Assumes nothing.
+use Prim.Native.Nat.{ℕ}
+use mathlib.Core.Path.{_≡_, sym, ap, _∙_}
+use Rattle.maps.specs.Map.{Map}
+use Rattle.maps.specs.Accepted.{Accepted}
+use Rattle.drawer.specs.Record.{Filed, Reading, good, recordBytes, filedIn, readRecord}
+use Rattle.drawer.specs.Theorems.{filedAs, DieNumber, RecordLong, ReadBack, BytesApart}
+use Rattle.drawer.proofs.Record.{length-recordBytes, recordBytes-below, below-nth, filedIn-recordBytes}
+use Rattle.drawer.proofs.Reading.{sound-good, filing-fits, signed-sound}
+
+pub record-long : RecordLong
+unfolding RecordLong
+record-long die M d a =
+    let fits = filing-fits a die (d .1) in
+    (length-recordBytes (filedAs die M) fits, below-nth (recordBytes-below (filedAs die M) fits))
+
+pub read-back : ReadBack
+unfolding ReadBack
+read-back die M d a = sound-good (recordBytes (filedAs die M)) (signed-sound a die (d .0) (d .1)) ∙ ap good (filedIn-recordBytes (filedAs die M) (filing-fits a die (d .1)))
+
+pub bytes-apart : BytesApart
+unfolding BytesApart ReadBack
+bytes-apart die die′ M M′ d d′ a a′ same =
+    let readings : good (filedAs die M) ≡ good (filedAs die′ M′) = sym (read-back die M d a) ∙ ap readRecord same ∙ read-back die′ M′ d′ a′ in
+    cc

@@ -1,0 +1,40 @@
+-- What records and the drawer's calls mean, as statements. `proofs/Theorems.antt` proves each.
+--     filedAs die M     a die and the signature of a map: what filing writes
+--     DieNumber         a die number that can be filed: not 0, and of 4 bytes
+--     RecordLong        a filed layout has 2,048 bytes
+--     ReadBack          they are read back as the filed layout
+--     BytesApart        and two filed layouts have different bytes
+-- Assumes nothing.
+use Prim.Native.Nat.{ℕ, _≤_, _<_}
+use mathlib.Core.Path.{_≡_}
+use lib.ListN.{length}
+use Rattle.maps.specs.Least.{nth}
+use Rattle.maps.specs.Map.{Map}
+use Rattle.maps.specs.Accepted.{Accepted}
+use Rattle.maps.specs.Given.{Given, lent, mapOf}
+use Rattle.words.specs.Words.{signature}
+use Rattle.drawer.specs.Record.{Filed, good, recordSize, recordBytes, readRecord}
+
+-- a die, with n, m and the signature of a map
+abbrev pub filedAs : ℕ → Map → Filed
+filedAs die M = record { die = die; layout = lent (M .dim) (M .darts) (signature M) }
+
+-- 16: "die number 0"; 01: "die number (4 bytes)"
+abbrev pub DieNumber : ℕ → Type 0
+DieNumber die = (1 ≤ die) × (die ≤ 4294967295)
+
+-- 01: "Records of 2,048 bytes": so many numbers, each below 256
+unfoldable pub RecordLong : Type 0
+RecordLong =
+    (die : ℕ) (M : Map) → DieNumber die → Accepted M
+    → (length (recordBytes (filedAs die M)) ≡ recordSize)
+    × ((p : ℕ) → nth (recordBytes (filedAs die M)) p < 256)
+
+unfoldable pub ReadBack : Type 0
+ReadBack = (die : ℕ) (M : Map) → DieNumber die → Accepted M → readRecord (recordBytes (filedAs die M)) ≡ good (filedAs die M)
+
+unfoldable pub BytesApart : Type 0
+BytesApart =
+    (die die′ : ℕ) (M M′ : Map) → DieNumber die → DieNumber die′ → Accepted M → Accepted M′
+    → recordBytes (filedAs die M) ≡ recordBytes (filedAs die′ M′)
+    → filedAs die M ≡ filedAs die′ M′

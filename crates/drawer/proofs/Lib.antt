@@ -4,4 +4,5 @@ pub mod Run
 pub mod Refused
 pub mod Record
 pub mod Reading
+pub mod Lines
 pub mod Theorems

@@ -45,14 +45,14 @@ pub record Sound (r : List ℕ) : Type 0 where
   pub signed : filedIn r .layout .table ≡ signature (mapOf (filedIn r .layout))
 
 -- n and m are in bounds exactly where 1 and 2 accept
-bounds-accept : (l : Given) → InBounds (l .n) (l .m) → (accepts (judgeDimension l) ≡ true) × (accepts (judgeSize l) ≡ true)
+pub bounds-accept : (l : Given) → InBounds (l .n) (l .m) → (accepts (judgeDimension l) ≡ true) × (accepts (judgeSize l) ≡ true)
 unfolding judgeDimension judgeSize
 bounds-accept l b = (
   rw (unless-accepts _ 1 0 (omega arith)) (simp (le-leb 1 (l .n) (b .dim-least), le-leb (l .n) 4 (b .dim-most))),
   rw (unless-accepts _ 2 0 (omega arith)) (simp (le-leb 1 (l .m) (b .darts-least), le-leb (l .n * l .m) 1020 (b .table-most))),
 )
 
-accept-bounds : (l : Given) → accepts (judgeDimension l) ≡ true → accepts (judgeSize l) ≡ true → InBounds (l .n) (l .m)
+pub accept-bounds : (l : Given) → accepts (judgeDimension l) ≡ true → accepts (judgeSize l) ≡ true → InBounds (l .n) (l .m)
 unfolding judgeDimension judgeSize
 accept-bounds l a b =
     let dim = both-pass (leb 1 (l .n)) (leb (l .n) 4) (rw (unless-accepts _ 1 0 (omega arith)) at a) in
@@ -66,7 +66,7 @@ accept-bounds l a b =
 
 -- of a map in bounds, 5 to 9 accept exactly where it is accepted
 module _ (M : Map) where
-  map-accepts : Accepted M → accepts (judgeMap M) ≡ true
+  pub map-accepts : Accepted M → accepts (judgeMap M) ≡ true
   unfolding accepts accepted
   map-accepts a =
       ap accepts (clear-shows (map-shows M (a .bounds .dim-least) (a .bounds .darts-least)) (map-clear M (a .bounds .darts-least) .1 (a .open-map, a .connected)))
@@ -75,7 +75,7 @@ module _ (M : Map) where
   unfolding judgeMap
   judgeMap-whole e = inOrder-accepts _ e
 
-  accepts-map : InBounds (M .dim) (M .darts) → accepts (judgeMap M) ≡ true → Accepted M
+  pub accepts-map : InBounds (M .dim) (M .darts) → accepts (judgeMap M) ≡ true → Accepted M
   accepts-map b e =
       let h = map-clear M (b .darts-least) .0 (shows-clear (map-shows M (b .dim-least) (b .darts-least)) (judgeMap-whole e)) in
       record { bounds = b; open-map = h .0; connected = h .1 }

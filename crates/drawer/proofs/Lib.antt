@@ -5,4 +5,5 @@ pub mod Refused
 pub mod Record
 pub mod Reading
 pub mod Lines
+pub mod Drawer
 pub mod Theorems

@@ -4,9 +4,10 @@ use mathlib.Core.Path.{_≡_, sym, ap, _∙_}
 use Rattle.maps.specs.Map.{Map}
 use Rattle.maps.specs.Accepted.{Accepted}
 use Rattle.drawer.specs.Record.{Filed, Reading, good, recordBytes, filedIn, readRecord}
-use Rattle.drawer.specs.Theorems.{filedAs, DieNumber, RecordLong, ReadBack, BytesApart}
+use Rattle.drawer.specs.Theorems.{filedAs, DieNumber, RecordLong, ReadBack, BytesApart, SearchTells}
 use Rattle.drawer.proofs.Record.{length-recordBytes, recordBytes-below, below-nth, filedIn-recordBytes}
 use Rattle.drawer.proofs.Reading.{sound-good, filing-fits, signed-sound}
+use Rattle.drawer.proofs.Drawer.{search-tells, matches-once, search-fifteen}
 
 pub record-long : RecordLong
 unfolding RecordLong
@@ -23,3 +24,7 @@ unfolding BytesApart ReadBack
 bytes-apart die die′ M M′ d d′ a a′ same =
     let readings : good (filedAs die M) ≡ good (filedAs die′ M′) = sym (read-back die M d a) ∙ ap readRecord same ∙ read-back die′ M′ d′ a′ in
     cc
+
+pub search-tells-matchings : SearchTells
+unfolding SearchTells
+search-tells-matchings g D checked fine = (search-tells g D checked fine, matches-once g D checked fine, search-fifteen g D checked fine)

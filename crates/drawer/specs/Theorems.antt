@@ -4,16 +4,24 @@
 --     RecordLong        a filed layout has 2,048 bytes
 --     ReadBack          they are read back as the filed layout
 --     BytesApart        and two filed layouts have different bytes
+--     found k x         what search answers where it finds record k, of die x
+--     SearchTells       11: search finds the record whose layout has a matching with the map, the only one, and 15 where there is none
 -- Assumes nothing.
 use Prim.Native.Nat.{ℕ, _≤_, _<_}
 use mathlib.Core.Path.{_≡_}
+use mathlib.Core.Logic.{_↔_}
 use lib.ListN.{length}
 use Rattle.maps.specs.Least.{nth}
 use Rattle.maps.specs.Map.{Map}
 use Rattle.maps.specs.Accepted.{Accepted}
 use Rattle.maps.specs.Given.{Given, lent, mapOf}
+use Rattle.maps.specs.Matching.{Matched}
+use Rattle.maps.specs.Verdict.{accepted}
+use Rattle.labels.specs.Judging.{checkAnswer}
 use Rattle.words.specs.Words.{signature}
 use Rattle.drawer.specs.Record.{Filed, good, recordSize, recordBytes, readRecord}
+use Rattle.drawer.specs.Drawer.{Drawer, entryAt, SearchAnswer, drawerAnswer, searchAnswer}
+use Rattle.drawer.specs.Lines.{IsRecord, layoutAt}
 
 -- a die, with n, m and the signature of a map
 abbrev pub filedAs : ℕ → Map → Filed
@@ -38,3 +46,19 @@ BytesApart =
     (die die′ : ℕ) (M M′ : Map) → DieNumber die → DieNumber die′ → Accepted M → Accepted M′
     → recordBytes (filedAs die M) ≡ recordBytes (filedAs die′ M′)
     → filedAs die M ≡ filedAs die′ M′
+
+-- number 0, record k and die x
+abbrev pub found : ℕ → ℕ → SearchAnswer
+found k x = record { number = 0; place = 0; die = x; at = k }
+
+-- the map of g has a matching with that of record k
+abbrev pub MatchesRecord : Given → Drawer → ℕ → Type 0
+MatchesRecord g D k = IsRecord D k × Matched (mapOf g) (mapOf (layoutAt D k))
+
+-- of a good drawer, and a table that the check accepts
+unfoldable pub SearchTells : Type 0
+SearchTells =
+    (g : Given) (D : Drawer) → checkAnswer g ≡ accepted → drawerAnswer D ≡ accepted
+    → ((k x : ℕ) → (searchAnswer g D ≡ found k x) ↔ MatchesRecord g D k × (entryAt (D .bytes) k .die ≡ x))
+    × ((j k : ℕ) → MatchesRecord g D j → MatchesRecord g D k → j ≡ k)
+    × ((searchAnswer g D .number ≡ 15) ↔ ((k : ℕ) → ¬ MatchesRecord g D k))

@@ -6,4 +6,5 @@ pub mod Record
 pub mod Reading
 pub mod Lines
 pub mod Drawer
+pub mod Filing
 pub mod Theorems

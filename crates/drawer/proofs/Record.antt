@@ -104,16 +104,18 @@ unfolding allZero
 allZero-replicate zero = refl
 allZero-replicate (suc k) = allZero-replicate k
 
-module _ (f : Filed) (r : Fits f) where
+-- a record is 2,048 bytes long, whatever its numbers are
+module _ (f : Filed) (long : length (f .layout .table) ≡ f .layout .n * f .layout .m) where
   length-word : length (tableBytes (f .layout .table)) ≡ 2 * (f .layout .n * f .layout .m)
-  length-word = length-tableBytes (f .layout .table) ∙ ap (λ (k : ℕ). 2 * k) (r .long)
+  length-word = length-tableBytes (f .layout .table) ∙ ap (λ (k : ℕ). 2 * k) long
 
-  pub length-recordBytes : length (recordBytes f) ≡ recordSize
+  pub length-recordBytes : f .layout .n * f .layout .m ≤ 1020 → length (recordBytes f) ≡ recordSize
   unfolding recordSize
-  length-recordBytes =
+  length-recordBytes small =
       rw (recordBytes-parts f)
-      (simp (length-append, length-toBytes, length-replicate, length-word) (omega (arith, r .small)))
+      (simp (length-append, length-toBytes, length-replicate, length-word) (omega arith))
 
+module _ (f : Filed) (r : Fits f) where
   pub recordBytes-below : Below 256 (recordBytes f)
   recordBytes-below =
       rw (recordBytes-parts f)
@@ -155,5 +157,5 @@ module _ (f : Filed) (r : Fits f) where
   pub fillingIn-recordBytes : allZero (fillingIn (recordBytes f)) ≡ true
   unfolding fillingIn
   fillingIn-recordBytes =
-      rw (filedIn-recordBytes, ← drop-drop (2 * (f .layout .n * f .layout .m)) 8 (recordBytes f), drop-recordBytes, drop-at (tableBytes (f .layout .table)) (zeros f) (2 * (f .layout .n * f .layout .m)) length-word)
+      rw (filedIn-recordBytes, ← drop-drop (2 * (f .layout .n * f .layout .m)) 8 (recordBytes f), drop-recordBytes, drop-at (tableBytes (f .layout .table)) (zeros f) (2 * (f .layout .n * f .layout .m)) (length-word f (r .long)))
       (allZero-replicate (recordSize - 8 - 2 * (f .layout .n * f .layout .m)))

@@ -1,19 +1,21 @@
 -- The theorems of `specs/Theorems.antt`. Assumes nothing.
-use Prim.Native.Nat.{ℕ}
+use Prim.Native.Nat.{ℕ, _+_}
 use mathlib.Core.Path.{_≡_, sym, ap, _∙_}
 use Rattle.maps.specs.Map.{Map}
 use Rattle.maps.specs.Accepted.{Accepted}
 use Rattle.drawer.specs.Record.{Filed, Reading, good, recordBytes, filedIn, readRecord}
-use Rattle.drawer.specs.Theorems.{filedAs, DieNumber, RecordLong, ReadBack, BytesApart, SearchTells}
+use Rattle.drawer.specs.Drawer.{drawer, filedBytes}
+use Rattle.drawer.specs.Theorems.{filedAs, DieNumber, RecordLong, ReadBack, BytesApart, SearchTells, FilesNext, RefusedKeeps, StaysGood}
 use Rattle.drawer.proofs.Record.{length-recordBytes, recordBytes-below, below-nth, filedIn-recordBytes}
 use Rattle.drawer.proofs.Reading.{sound-good, filing-fits, signed-sound}
-use Rattle.drawer.proofs.Drawer.{search-tells, matches-once, search-fifteen}
+use Rattle.drawer.proofs.Drawer.{good-check, search-tells, matches-once, search-fifteen}
+use Rattle.drawer.proofs.Filing.{answer-accepts, answer-refuses, filed-count, kept-next, kept-before, kept-elsewhere, kept-long, stays-good, refused-bytes}
 
 pub record-long : RecordLong
 unfolding RecordLong
 record-long die M d a =
     let fits = filing-fits a die (d .1) in
-    (length-recordBytes (filedAs die M) fits, below-nth (recordBytes-below (filedAs die M) fits))
+    (length-recordBytes (filedAs die M) (fits .long) (fits .small), below-nth (recordBytes-below (filedAs die M) fits))
 
 pub read-back : ReadBack
 unfolding ReadBack
@@ -28,3 +30,17 @@ bytes-apart die die′ M M′ d d′ a a′ same =
 pub search-tells-matchings : SearchTells
 unfolding SearchTells
 search-tells-matchings g D checked fine = (search-tells g D checked fine, matches-once g D checked fine, search-fifteen g D checked fine)
+
+pub files-next : FilesNext
+unfolding FilesNext
+files-next die g D is =
+    let e = answer-accepts die g D is in
+    (filed-count die g D e, kept-next die g D e, kept-before die g D e, kept-elsewhere die g D e, kept-long die g D e)
+
+pub refused-keeps : RefusedKeeps
+unfolding RefusedKeeps
+refused-keeps die g D other = refused-bytes die g D (answer-refuses die g D other)
+
+pub drawer-stays-good : StaysGood
+unfolding StaysGood
+drawer-stays-good die g D fits is = good-check (drawer (D .count + 1) (filedBytes die g D)) (stays-good die g D (answer-accepts die g D is) fits)

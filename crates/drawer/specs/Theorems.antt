@@ -6,10 +6,13 @@
 --     BytesApart        and two filed layouts have different bytes
 --     found k x         what search answers where it finds record k, of die x
 --     SearchTells       11: search finds the record whose layout has a matching with the map, the only one, and 15 where there is none
+--     FilesNext         an accepted filing writes the next record and alters no other byte, beyond it included
+--     RefusedKeeps      a refused one alters none
+--     StaysGood         a drawer stays good when a layout is filed
 -- Assumes nothing.
-use Prim.Native.Nat.{ℕ, _≤_, _<_}
+use Prim.Native.Nat.{ℕ, _+_, _*_, _≤_, _<_}
 use mathlib.Core.Path.{_≡_}
-use mathlib.Core.Logic.{_↔_}
+use mathlib.Core.Logic.{_↔_, _⊎_}
 use lib.ListN.{length}
 use Rattle.maps.specs.Least.{nth}
 use Rattle.maps.specs.Map.{Map}
@@ -20,7 +23,7 @@ use Rattle.maps.specs.Verdict.{accepted}
 use Rattle.labels.specs.Judging.{checkAnswer}
 use Rattle.words.specs.Words.{signature}
 use Rattle.drawer.specs.Record.{Filed, good, recordSize, recordBytes, readRecord}
-use Rattle.drawer.specs.Drawer.{Drawer, entryAt, SearchAnswer, drawerAnswer, searchAnswer}
+use Rattle.drawer.specs.Drawer.{Drawer, drawer, recordAt, entryAt, layoutOf, SearchAnswer, drawerAnswer, searchAnswer, filingAnswer, filedBytes}
 use Rattle.drawer.specs.Lines.{IsRecord, layoutAt}
 
 -- a die, with n, m and the signature of a map
@@ -62,3 +65,27 @@ SearchTells =
     → ((k x : ℕ) → (searchAnswer g D ≡ found k x) ↔ MatchesRecord g D k × (entryAt (D .bytes) k .die ≡ x))
     × ((j k : ℕ) → MatchesRecord g D j → MatchesRecord g D k → j ≡ k)
     × ((searchAnswer g D .number ≡ 15) ↔ ((k : ℕ) → ¬ MatchesRecord g D k))
+
+-- place p of the drawer's bytes, counted from 1, lies before or beyond the record after the last
+abbrev pub Elsewhere : Drawer → ℕ → Type 0
+Elsewhere D p = (p ≤ D .count * recordSize) ⊎ ((D .count + 1) * recordSize < p)
+
+-- 01: "Filing writes the next record, with the map's signature, answers the new count and alters no other byte, beyond it included"
+unfoldable pub FilesNext : Type 0
+FilesNext =
+    (die : ℕ) (g : Given) (D : Drawer) → filingAnswer die g D .number ≡ 0
+    → (filingAnswer die g D .count ≡ D .count + 1)
+    × (recordAt (filedBytes die g D) (D .count + 1) ≡ recordBytes (record { die = die; layout = layoutOf g }))
+    × ((k : ℕ) → IsRecord D k → recordAt (filedBytes die g D) k ≡ recordAt (D .bytes) k)
+    × ((p : ℕ) → Elsewhere D p → nth (filedBytes die g D) p ≡ nth (D .bytes) p)
+    × (length (filedBytes die g D) ≡ length (D .bytes))
+
+-- 01: "a refused call changes nothing"
+unfoldable pub RefusedKeeps : Type 0
+RefusedKeeps = (die : ℕ) (g : Given) (D : Drawer) → ¬ (filingAnswer die g D .number ≡ 0) → filedBytes die g D ≡ D .bytes
+
+-- a die number that 4 bytes hold; that the drawer is good before, filing has judged
+unfoldable pub StaysGood : Type 0
+StaysGood =
+    (die : ℕ) (g : Given) (D : Drawer) → die ≤ 4294967295 → filingAnswer die g D .number ≡ 0
+    → drawerAnswer (drawer (D .count + 1) (filedBytes die g D)) ≡ accepted

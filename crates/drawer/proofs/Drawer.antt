@@ -7,20 +7,19 @@
 --     search-tells, matches-once, search-fifteen
 --                                           in the words of matchings
 -- Assumes nothing.
-use Prim.Native.Nat.{ℕ, zero, suc, _+_, _-_, _*_, _≤_, _<_}
+use Prim.Native.Nat.{ℕ, _*_, _≤_, _<_}
 use mathlib.Core.Path.{_≡_, refl, sym, ap, _∙_}
-use mathlib.Core.Bool.{Bool, true, false, _&&_}
-use mathlib.Core.List.{List, [], _∷_, _++_}
-use mathlib.Core.Logic.{_↔_, _⊎_, inl, inr, ⊎-elim}
+use mathlib.Core.Bool.{false}
+use mathlib.Core.Logic.{_↔_, _⊎_, inl, inr}
 use native.Mathlib.Omega.{arith}
 use native.Mathlib.Nat.{eq-zero-or-pos}
-use borrow.Author.Tests.{lt-leb, le-leb}
+use borrow.Author.Tests.{le-leb}
 use lib.Dec.{leb}
 use lib.ListN.{length}
 use Rattle.maps.specs.Accepted.{Accepted}
 use Rattle.maps.specs.Matching.{Matched}
 use Rattle.maps.specs.Given.{Given, lent, mapOf}
-use Rattle.maps.specs.Verdict.{Verdict, accepted, refused, accepts, unless, inOrder}
+use Rattle.maps.specs.Verdict.{accepted, refused, accepts, unless, inOrder}
 use Rattle.maps.proofs.Least.{Tested, passes, fails, tested, true-not-false}
 use Rattle.maps.proofs.Verdict.{inOrder-one, unless-passed, unless-accepts}
 use Rattle.maps.proofs.Lines.{Clear, clear, past, shows-clear, clear-shows, plain-silent}
@@ -28,9 +27,9 @@ use Rattle.labels.specs.Judging.{checkAnswer}
 use Rattle.labels.specs.Theorems.{CheckAccepts}
 use Rattle.labels.proofs.Theorems.{check-accepts}
 use Rattle.words.specs.Words.{signature}
-use Rattle.words.specs.Theorems.{SameSignature, SignatureTells}
+use Rattle.words.specs.Theorems.{SignatureTells}
 use Rattle.words.proofs.Theorems.{signature-tells}
-use Rattle.drawer.specs.Record.{Filed, recordSize, filedIn}
+use Rattle.drawer.specs.Record.{recordSize}
 use Rattle.drawer.specs.Drawer.{Drawer, mostRecords, recordAt, entryAt, badRecord, drawerAnswer, layoutOf, recordOf, SearchAnswer, judgeSearch, searchAnswer}
 use Rattle.drawer.specs.Lines.{IsRecord, layoutAt, Bad, drawerLines, DrawerShows}
 use Rattle.drawer.specs.Theorems.{found, MatchesRecord}

@@ -10,18 +10,18 @@
 -- Assumes nothing.
 use Prim.Native.Nat.{ℕ, zero, suc, _+_, _-_, _*_, _≤_, _<_}
 use mathlib.Core.Path.{_≡_, refl, sym, ap, _∙_}
-use mathlib.Core.Bool.{Bool, true, false, cond, _&&_}
-use mathlib.Core.List.{List, [], _∷_, _++_, append-assoc}
-use mathlib.Core.Logic.{_↔_, _⊎_, inl, inr, ⊎-elim}
+use mathlib.Core.Bool.{Bool, true, false}
+use mathlib.Core.List.{List, _∷_, _++_, append-assoc}
+use mathlib.Core.Logic.{_⊎_, inl, inr, ⊎-elim}
 use native.Mathlib.Omega.{arith}
 use native.Mathlib.Nat.{suc-mul, mul-le-mul-right, eq-or-lt-of-le}
 use native.Mathlib.Numerals.{add-one}
-use borrow.Author.Tests.{leb-true, eqb-true, eqb-false, eq-eqb}
+use borrow.Author.Tests.{leb-true, eqb-true, eq-eqb}
 use lib.Dec.{leb, eqb}
 use lib.Seq.{getD-take, getD-drop, getD-append-add, length-take-le, take-append-le, drop-append-le, take-at, drop-at}
-use lib.ListN.{length, take, drop, getD, length-append, length-take, length-drop, take-append-drop, List·getD-append}
+use lib.ListN.{length, take, drop, getD, length-append, length-drop, take-append-drop, List·getD-append}
 use Rattle.maps.specs.Least.{nth}
-use Rattle.maps.specs.Given.{Given, lent, mapOf}
+use Rattle.maps.specs.Given.{Given, mapOf}
 use Rattle.maps.specs.Verdict.{Verdict, accepted, accepts, unless, atLeast, inOrder}
 use Rattle.maps.proofs.Least.{Tested, passes, fails, tested, true-not-false}
 use Rattle.maps.proofs.Verdict.{inOrder-accepts, inOrder-passed, inOrder-refused, unless-accepts}
@@ -33,15 +33,15 @@ use Rattle.labels.proofs.Judging.{table-whole}
 use Rattle.words.proofs.Sign.{length-signature}
 use Rattle.drawer.specs.Record.{Filed, recordSize, recordBytes, filedIn}
 use Rattle.drawer.specs.Drawer.{Drawer, drawer, mostRecords, recordAt, entryAt, badRecord, drawerAnswer, layoutOf, recordOf, recordOfDie, judgeFiling, filingAnswer, filedBytes}
-use Rattle.drawer.specs.Lines.{IsRecord, layoutAt}
+use Rattle.drawer.specs.Lines.{IsRecord}
 use Rattle.drawer.specs.Theorems.{Elsewhere}
 use Rattle.drawer.proofs.Record.{length-recordBytes, filedIn-recordBytes}
 use Rattle.drawer.proofs.Reading.{Sound, filing-fits, signed-sound}
 use Rattle.drawer.proofs.Lines.{passed-sound, passed-first, sound-passed, recordOf-none, recordOfDie-none}
-use Rattle.drawer.proofs.Drawer.{GoodDrawer, check-good, good-check}
+use Rattle.drawer.proofs.Drawer.{GoodDrawer, check-good}
 
 -- a list of verdicts that accepts
-inOrder-both : (v : Verdict) (vs : List Verdict) → accepts (inOrder (v ∷ vs)) ≡ true → (accepts v ≡ true) × (accepts (inOrder vs) ≡ true)
+pub inOrder-both : (v : Verdict) (vs : List Verdict) → accepts (inOrder (v ∷ vs)) ≡ true → (accepts v ≡ true) × (accepts (inOrder vs) ≡ true)
 inOrder-both v vs e = at (tested (accepts v))
   where
     at : Tested (accepts v) → (accepts v ≡ true) × (accepts (inOrder vs) ≡ true)
@@ -52,7 +52,7 @@ atLeast-none : (k p : ℕ) → 1 ≤ k → accepts (atLeast k p) ≡ true → p 
 unfolding atLeast
 atLeast-none k p low e = eqb-true p 0 (sym (unless-accepts (eqb p 0) k p low) ∙ e)
 
-unless-holds : (b : Bool) (k p : ℕ) → 1 ≤ k → accepts (unless b k p) ≡ true → b ≡ true
+pub unless-holds : (b : Bool) (k p : ℕ) → 1 ≤ k → accepts (unless b k p) ≡ true → b ≡ true
 unless-holds b k p low e = sym (unless-accepts b k p low) ∙ e
 
 -- what an accepted filing has passed

@@ -7,4 +7,5 @@ pub mod Reading
 pub mod Lines
 pub mod Drawer
 pub mod Filing
+pub mod Plain
 pub mod Theorems

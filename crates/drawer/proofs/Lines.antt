@@ -7,31 +7,29 @@
 --     filing-shows, filing-numbers    filing
 -- Assumes nothing.
 use Prim.Native.Nat.{ℕ, zero, suc, _+_, _-_, _*_, _≤_, _<_}
-use mathlib.Core.Path.{_≡_, refl, sym, ap, _∙_}
+use mathlib.Core.Path.{_≡_, refl, sym, _∙_}
 use mathlib.Core.Bool.{Bool, true, false, _&&_, _||_}
-use mathlib.Core.List.{List, [], _∷_, _++_}
+use mathlib.Core.List.{List, [], _∷_}
 use mathlib.Core.Logic.{_↔_, _⊎_, inl, inr, ⊎-elim}
 use native.Mathlib.Omega.{arith}
-use native.Mathlib.Numerals.{add-one}
-use borrow.Author.Tests.{lt-leb, le-leb, leb-true, leb-false, eq-eqb, eqb-true, eqb-false}
+use borrow.Author.Tests.{lt-leb, leb-true, leb-false, eq-eqb, eqb-true, eqb-false}
 use lib.Dec.{eqb, leb}
 use lib.Seq.{getD-drop}
-use lib.ListN.{length, drop, getD}
+use lib.ListN.{length, getD}
 use Rattle.maps.specs.Least.{nth, least, some}
-use Rattle.maps.specs.Accepted.{InBounds, Accepted}
 use Rattle.maps.specs.Given.{Given, mapOf}
 use Rattle.maps.specs.Verdict.{Verdict, accepted, refused, accepts, unless, atLeast, inOrder}
 use Rattle.maps.specs.Rules.{judgeDimension, judgeSize}
-use Rattle.maps.specs.Lines.{Line, Shows, here, plain, shapeLines, roomLines, entryLines, mapLines, tableLines, checkLines}
-use Rattle.maps.proofs.Least.{Tested, passes, fails, tested, true-not-false, Found, Misses, some-found, some-misses, misses-some, passes-some, least-none, none-least, least-found}
-use Rattle.maps.proofs.Verdict.{inOrder-passed, inOrder-first, inOrder-accepts, unless-passed, unless-refused, unless-accepts}
-use Rattle.maps.proofs.Lines.{Clear, clear, past, hasNumber, shows-then, shows-last, shows-unless, shows-least, shows-without, both-pass}
-use Rattle.labels.specs.Judging.{judgeMap, checkAnswer}
+use Rattle.maps.specs.Lines.{Line, Shows, here, shapeLines, roomLines, entryLines, mapLines, tableLines, checkLines}
+use Rattle.maps.proofs.Least.{Tested, passes, fails, tested, true-not-false, Misses, some-found, some-misses, misses-some, least-none, least-found}
+use Rattle.maps.proofs.Verdict.{inOrder-passed, inOrder-first, inOrder-accepts, unless-refused, unless-accepts}
+use Rattle.maps.proofs.Lines.{Clear, past, hasNumber, shows-then, shows-last, shows-unless, shows-least, shows-without, both-pass}
+use Rattle.labels.specs.Judging.{judgeMap}
 use Rattle.labels.specs.Theorems.{CheckShows}
 use Rattle.labels.proofs.Theorems.{check-shows}
 use Rattle.words.specs.Words.{same, signature}
 use Rattle.words.proofs.Order.{same-equal, equal-same}
-use Rattle.drawer.specs.Record.{Filed, recordSize, filedIn, zeroByteIn, fillingIn, allZero, sameLayout, readRecord}
+use Rattle.drawer.specs.Record.{Filed, recordSize, filedIn, zeroByteIn, fillingIn, allZero, readRecord}
 use Rattle.drawer.specs.Drawer.{Drawer, mostRecords, recordAt, entryAt, isBad, hasDie, hasLayout, repeats, badRecord, judgeCount, judgeRecords, drawerAnswer, layoutOf, recordOf, recordOfDie, judgeSearch, searchAnswer, judgeFiling, filingAnswer}
 use Rattle.drawer.specs.Lines.{IsRecord, layoutAt, Bad, no-die, out-of-bounds, zero-byte, filling, no-map, other-word, die-repeated, layout-repeated, drawerLines, searchLines, filingLines, DrawerShows, SearchShows, FilingShows, SearchNumbers, FilingNumbers}
 use Rattle.drawer.proofs.Reading.{Sound, good-sound, sound-reads, bounds-accept, accept-bounds, map-accepts, accepts-map, sameLayout-equal, equal-sameLayout}

@@ -6,10 +6,10 @@
 --     sameLayout-equal, equal-sameLayout
 --                                  the test of two layouts is their equality
 -- Assumes nothing.
-use Prim.Native.Nat.{ℕ, zero, suc, _+_, _-_, _*_, _≤_, _<_}
-use mathlib.Core.Path.{_≡_, refl, sym, ap, _∙_}
+use Prim.Native.Nat.{ℕ, zero, suc, _*_, _≤_, _<_}
+use mathlib.Core.Path.{_≡_, refl, sym, ap}
 use mathlib.Core.Bool.{Bool, true, false, _&&_}
-use mathlib.Core.List.{List, [], _∷_, _++_, map, flatMap}
+use mathlib.Core.List.{List, [], _∷_, map, flatMap}
 use native.Mathlib.Omega.{arith}
 use native.Mathlib.Nat.{mul-le-mul-right}
 use borrow.Author.Tests.{le-leb, leb-true, eq-eqb, eqb-true}
@@ -17,9 +17,9 @@ use lib.Dec.{eqb, leb}
 use lib.ListN.{length, drop}
 use Rattle.maps.specs.Least.{upTo}
 use Rattle.maps.specs.Map.{Map, IsDart, sew}
-use Rattle.maps.specs.Accepted.{InBounds, OpenMap, Connected, Accepted}
+use Rattle.maps.specs.Accepted.{InBounds, Accepted}
 use Rattle.maps.specs.Given.{Given, lent, mapOf}
-use Rattle.maps.specs.Verdict.{Verdict, accepted, accepts, inOrder}
+use Rattle.maps.specs.Verdict.{accepted, accepts}
 use Rattle.maps.specs.Rules.{judgeDimension, judgeSize}
 use Rattle.maps.proofs.Least.{Tested, passes, fails, tested, true-not-false}
 use Rattle.maps.proofs.Verdict.{inOrder-accepts, unless-accepts}
@@ -32,7 +32,7 @@ use Rattle.words.specs.Words.{row, wordOf, word, same, signature}
 use Rattle.words.proofs.Order.{same-equal, equal-same, signature-one}
 use Rattle.words.proofs.Sign.{length-signature}
 use Rattle.words.proofs.Meaning.{signature-accepted, signature-signature}
-use Rattle.drawer.specs.Record.{Filed, Fault, Reading, good, bad, sameLayout, fromBytes, numbers, recordBytes, filedIn, zeroByteIn, fillingIn, allZero, provided, readTable, asSigned, readRecord}
+use Rattle.drawer.specs.Record.{Filed, Fault, Reading, good, sameLayout, numbers, recordBytes, filedIn, zeroByteIn, fillingIn, allZero, provided, readTable, asSigned, readRecord}
 use Rattle.drawer.specs.Drawer.{isBad}
 use Rattle.drawer.proofs.Record.{Below, none, more, below-append, Fits, filedIn-recordBytes, zeroByteIn-recordBytes, fillingIn-recordBytes}
 

@@ -8,16 +8,16 @@
 --     filedIn-recordBytes, zeroByteIn-recordBytes, fillingIn-recordBytes
 --                                          what a reading finds in them
 -- Assumes nothing.
-use Prim.Native.Nat.{ℕ, zero, suc, _+_, _-_, _*_, _/_, _%_, _^_, _≤_, _<_}
+use Prim.Native.Nat.{ℕ, zero, suc, _-_, _*_, _/_, _%_, _^_, _≤_, _<_}
 use mathlib.Core.Path.{_≡_, refl, sym, ap, ap₂, _∙_}
-use mathlib.Core.Bool.{Bool, true, false, _&&_}
-use mathlib.Core.List.{List, [], _∷_, _++_, flatMap, append-assoc}
+use mathlib.Core.Bool.{true}
+use mathlib.Core.List.{List, [], _∷_, _++_, flatMap}
 use native.Mathlib.Omega.{arith}
 use native.Mathlib.Nat.{pow-suc, div-lt-iff-lt-mul, mod-add-div, mod-lt, mod-eq-of-lt}
 use lib.Seq.{drop-at, drop-drop}
-use lib.ListN.{length, take, drop, replicate, length-append, length-replicate}
+use lib.ListN.{length, drop, replicate, length-append, length-replicate}
 use Rattle.maps.specs.Least.{nth}
-use Rattle.maps.specs.Given.{Given, lent}
+use Rattle.maps.specs.Given.{lent}
 use Rattle.drawer.specs.Record.{Filed, toBytes, fromBytes, numbers, recordSize, recordBytes, filedIn, zeroByteIn, fillingIn, allZero}
 
 -- each number of the list is below k

@@ -1,15 +1,14 @@
 -- The theorems of `specs/Theorems.antt`. Assumes nothing.
-use Prim.Native.Nat.{ℕ, _+_}
+use Prim.Native.Nat.{_+_}
 use mathlib.Core.Path.{_≡_, sym, ap, _∙_}
-use Rattle.maps.specs.Map.{Map}
-use Rattle.maps.specs.Accepted.{Accepted}
-use Rattle.drawer.specs.Record.{Filed, Reading, good, recordBytes, filedIn, readRecord}
-use Rattle.drawer.specs.Drawer.{drawer, filedBytes}
-use Rattle.drawer.specs.Theorems.{filedAs, DieNumber, RecordLong, ReadBack, BytesApart, SearchTells, FilesNext, RefusedKeeps, StaysGood}
+use Rattle.drawer.specs.Record.{good, recordBytes, readRecord}
+use Rattle.drawer.specs.Drawer.{Drawer, drawer, filedBytes}
+use Rattle.drawer.specs.Theorems.{filedAs, RecordLong, ReadBack, BytesApart, SearchTells, FilesNext, KeepsOthers, RefusedKeeps, StaysGood, drawerLeft, PlainState}
 use Rattle.drawer.proofs.Record.{length-recordBytes, recordBytes-below, below-nth, filedIn-recordBytes}
 use Rattle.drawer.proofs.Reading.{sound-good, filing-fits, signed-sound}
 use Rattle.drawer.proofs.Drawer.{good-check, search-tells, matches-once, search-fifteen}
 use Rattle.drawer.proofs.Filing.{answer-accepts, answer-refuses, filed-count, kept-next, kept-before, kept-elsewhere, kept-long, stays-good, refused-bytes}
+use Rattle.drawer.proofs.Plain.{left-is, holding-none, held-none}
 
 pub record-long : RecordLong
 unfolding RecordLong
@@ -35,7 +34,13 @@ pub files-next : FilesNext
 unfolding FilesNext
 files-next die g D is =
     let e = answer-accepts die g D is in
-    (filed-count die g D e, kept-next die g D e, kept-before die g D e, kept-elsewhere die g D e, kept-long die g D e)
+    (filed-count die g D e, kept-next die g D e)
+
+pub keeps-others : KeepsOthers
+unfolding KeepsOthers
+keeps-others die g D is =
+    let e = answer-accepts die g D is in
+    (kept-before die g D e, kept-elsewhere die g D e, kept-long die g D e)
 
 pub refused-keeps : RefusedKeeps
 unfolding RefusedKeeps
@@ -44,3 +49,7 @@ refused-keeps die g D other = refused-bytes die g D (answer-refuses die g D othe
 pub drawer-stays-good : StaysGood
 unfolding StaysGood
 drawer-stays-good die g D fits is = good-check (drawer (D .count + 1) (filedBytes die g D)) (stays-good die g D (answer-accepts die g D is) fits)
+
+pub plain-state : PlainState
+unfolding PlainState
+plain-state bytes calls ok = ap (λ (D : Drawer). drawerLeft D calls) (sym (holding-none bytes)) ∙ left-is (held-none bytes) calls ok

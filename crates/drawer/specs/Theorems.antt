@@ -6,14 +6,22 @@
 --     BytesApart        and two filed layouts have different bytes
 --     found k x         what search answers where it finds record k, of die x
 --     SearchTells       11: search finds the record whose layout has a matching with the map, the only one, and 15 where there is none
---     FilesNext         an accepted filing writes the next record and alters no other byte, beyond it included
+--     FilesNext         an accepted filing writes the next record, and answers the new count
+--     KeepsOthers       it alters no other record and no other byte, beyond included
 --     RefusedKeeps      a refused one alters none
 --     StaysGood         a drawer stays good when a layout is filed
+--     drawerLeft, plainLeft
+--                       the drawer, and the plain list, after a run of calls
+--     holding           the drawer that holds a plain list: its entries' records in order, and the bytes beyond as they were lent
+--     PlainState        12: after any run from an empty drawer the drawer holds the plain list
+-- That the answers of the run are the same is `PlainList` of `Plain`.
 -- Assumes nothing.
 use Prim.Native.Nat.{ℕ, _+_, _*_, _≤_, _<_}
 use mathlib.Core.Path.{_≡_}
 use mathlib.Core.Logic.{_↔_, _⊎_}
-use lib.ListN.{length}
+use mathlib.Core.List.{List, [], _∷_, _++_, flatMap}
+use lib.Dec.{T}
+use lib.ListN.{length, drop}
 use Rattle.maps.specs.Least.{nth}
 use Rattle.maps.specs.Map.{Map}
 use Rattle.maps.specs.Accepted.{Accepted}
@@ -25,6 +33,7 @@ use Rattle.words.specs.Words.{signature}
 use Rattle.drawer.specs.Record.{Filed, good, recordSize, recordBytes, readRecord}
 use Rattle.drawer.specs.Drawer.{Drawer, drawer, recordAt, entryAt, layoutOf, SearchAnswer, drawerAnswer, searchAnswer, filingAnswer, filedBytes}
 use Rattle.drawer.specs.Lines.{IsRecord, layoutAt}
+use Rattle.drawer.specs.Plain.{Call, allFit, drawerAfter, plainAfter, roomIn}
 
 -- a die, with n, m and the signature of a map
 abbrev pub filedAs : ℕ → Map → Filed
@@ -70,13 +79,18 @@ SearchTells =
 abbrev pub Elsewhere : Drawer → ℕ → Type 0
 Elsewhere D p = (p ≤ D .count * recordSize) ⊎ ((D .count + 1) * recordSize < p)
 
--- 01: "Filing writes the next record, with the map's signature, answers the new count and alters no other byte, beyond it included"
+-- 01: "Filing writes the next record, with the map's signature, answers the new count"
 unfoldable pub FilesNext : Type 0
 FilesNext =
     (die : ℕ) (g : Given) (D : Drawer) → filingAnswer die g D .number ≡ 0
     → (filingAnswer die g D .count ≡ D .count + 1)
     × (recordAt (filedBytes die g D) (D .count + 1) ≡ recordBytes (record { die = die; layout = layoutOf g }))
-    × ((k : ℕ) → IsRecord D k → recordAt (filedBytes die g D) k ≡ recordAt (D .bytes) k)
+
+-- 01: "and alters no other byte, beyond it included"
+unfoldable pub KeepsOthers : Type 0
+KeepsOthers =
+    (die : ℕ) (g : Given) (D : Drawer) → filingAnswer die g D .number ≡ 0
+    → ((k : ℕ) → IsRecord D k → recordAt (filedBytes die g D) k ≡ recordAt (D .bytes) k)
     × ((p : ℕ) → Elsewhere D p → nth (filedBytes die g D) p ≡ nth (D .bytes) p)
     × (length (filedBytes die g D) ≡ length (D .bytes))
 
@@ -89,3 +103,20 @@ unfoldable pub StaysGood : Type 0
 StaysGood =
     (die : ℕ) (g : Given) (D : Drawer) → die ≤ 4294967295 → filingAnswer die g D .number ≡ 0
     → drawerAnswer (drawer (D .count + 1) (filedBytes die g D)) ≡ accepted
+
+-- 01: "each lent the count that the last accepted filing answered (0 before any) and the bytes last left"
+unfoldable pub drawerLeft : Drawer → List Call → Drawer
+drawerLeft D [] = D
+drawerLeft D (c ∷ cs) = drawerLeft (drawerAfter c D) cs
+
+unfoldable pub plainLeft : ℕ → List Filed → List Call → List Filed
+plainLeft room fs [] = fs
+plainLeft room fs (c ∷ cs) = plainLeft room (plainAfter room c fs) cs
+
+unfoldable pub holding : List ℕ → List Filed → Drawer
+holding bytes fs = drawer (length fs) (flatMap recordBytes fs ++ drop (length fs * recordSize) bytes)
+
+unfoldable pub PlainState : Type 0
+PlainState =
+    (bytes : List ℕ) (calls : List Call) → T (allFit calls)
+    → drawerLeft (drawer 0 bytes) calls ≡ holding bytes (plainLeft (roomIn bytes) [] calls)

@@ -1,27 +1,32 @@
 -- The laws of `specs/Drawer.antt`: what a good drawer is, and what search and filing do with one.
+--     inOrder-both, unless-holds            verdicts that accept, one by one
 --     GoodDrawer                            what the drawer check asks, record by record
 --     check-good, good-check                it accepts exactly where that holds
+--     accepts-each                          so no record of it is bad
 --     layout-matched, matched-layout        a record of a good drawer has the layout of a map exactly where the two have a matching
 --     layout-once                           no layout stands in two records
 --     search-found, search-none             what search answers
 --     search-tells, matches-once, search-fifteen
 --                                           in the words of matchings
+--     own-bytes                             the bytes that it hands back
 -- Assumes nothing.
-use Prim.Native.Nat.{ℕ, _*_, _≤_, _<_}
+use Prim.Native.Nat.{ℕ, suc, _+_, _-_, _*_, _≤_, _<_}
 use mathlib.Core.Path.{_≡_, refl, sym, ap, _∙_}
-use mathlib.Core.Bool.{false}
+use mathlib.Core.Bool.{Bool, true, false}
+use mathlib.Core.List.{List, [], _∷_}
 use mathlib.Core.Logic.{_↔_, _⊎_, inl, inr}
 use native.Mathlib.Omega.{arith}
-use native.Mathlib.Nat.{eq-zero-or-pos}
-use borrow.Author.Tests.{le-leb}
+use native.Mathlib.Nat.{eq-zero-or-pos, suc-mul, mul-le-mul-right}
+use borrow.Author.Tests.{le-leb, leb-true, eq-eqb}
 use lib.Dec.{leb}
-use lib.ListN.{length}
+use lib.Seq.{length-take-le}
+use lib.ListN.{length, drop, length-drop}
 use Rattle.maps.specs.Accepted.{Accepted}
 use Rattle.maps.specs.Matching.{Matched}
 use Rattle.maps.specs.Given.{Given, lent, mapOf}
-use Rattle.maps.specs.Verdict.{accepted, refused, accepts, unless, inOrder}
+use Rattle.maps.specs.Verdict.{Verdict, accepted, refused, accepts, unless, inOrder}
 use Rattle.maps.proofs.Least.{Tested, passes, fails, tested, true-not-false}
-use Rattle.maps.proofs.Verdict.{inOrder-one, unless-passed, unless-accepts}
+use Rattle.maps.proofs.Verdict.{inOrder-accepts, inOrder-passed, inOrder-refused, inOrder-one, unless-passed, unless-accepts}
 use Rattle.maps.proofs.Lines.{Clear, clear, past, shows-clear, clear-shows, plain-silent}
 use Rattle.labels.specs.Judging.{checkAnswer}
 use Rattle.labels.specs.Theorems.{CheckAccepts}
@@ -30,11 +35,26 @@ use Rattle.words.specs.Words.{signature}
 use Rattle.words.specs.Theorems.{SignatureTells}
 use Rattle.words.proofs.Theorems.{signature-tells}
 use Rattle.drawer.specs.Record.{recordSize}
-use Rattle.drawer.specs.Drawer.{Drawer, mostRecords, recordAt, entryAt, badRecord, drawerAnswer, layoutOf, recordOf, SearchAnswer, judgeSearch, searchAnswer}
+use Rattle.drawer.specs.Drawer.{Drawer, mostRecords, recordAt, entryAt, badRecord, drawerAnswer, layoutOf, recordOf, SearchAnswer, judgeSearch, searchAnswer, ownBytes}
 use Rattle.drawer.specs.Lines.{IsRecord, layoutAt, Bad, drawerLines, DrawerShows}
 use Rattle.drawer.specs.Theorems.{found, MatchesRecord}
 use Rattle.drawer.proofs.Reading.{Sound}
 use Rattle.drawer.proofs.Lines.{bad-says, passed-sound, passed-first, drawer-shows, recordOf-found, recordOf-none}
+
+-- a list of verdicts that accepts
+pub inOrder-both : (v : Verdict) (vs : List Verdict) → accepts (inOrder (v ∷ vs)) ≡ true → (accepts v ≡ true) × (accepts (inOrder vs) ≡ true)
+inOrder-both v vs e = at (tested (accepts v))
+  where
+    at : Tested (accepts v) → (accepts v ≡ true) × (accepts (inOrder vs) ≡ true)
+    at (passes a) = (a, sym (ap accepts (inOrder-passed v vs a)) ∙ e)
+    at (fails a) = absurd (true-not-false (sym (ap accepts (inOrder-refused v vs a)) ∙ e) a)
+
+pub unless-holds : (b : Bool) (k p : ℕ) → 1 ≤ k → accepts (unless b k p) ≡ true → b ≡ true
+unless-holds b k p low e = sym (unless-accepts b k p low) ∙ e
+
+pub drawer-whole : (D : Drawer) → accepts (drawerAnswer D) ≡ true → drawerAnswer D ≡ accepted
+unfolding drawerAnswer
+drawer-whole D e = inOrder-accepts _ e
 
 -- what the drawer check asks, record by record
 pub record GoodDrawer (D : Drawer) : Type 0 where
@@ -70,6 +90,21 @@ module _ (D : Drawer) where
       counts : ¬ ((mostRecords < D .count) ⊎ (length (D .bytes) < D .count * recordSize))
       counts (inl many) = omega (arith, h .few)
       counts (inr long) = omega (arith, h .within)
+
+  pub accepts-each : (drawerAnswer D ≡ accepted) ↔ (D .count ≤ mostRecords) × (D .count * recordSize ≤ length (D .bytes)) × ((k : ℕ) → IsRecord D k → ¬ Bad D k)
+  accepts-each = (to, back)
+    where
+      to : drawerAnswer D ≡ accepted → (D .count ≤ mostRecords) × (D .count * recordSize ≤ length (D .bytes)) × ((k : ℕ) → IsRecord D k → ¬ Bad D k)
+      to is =
+          let h = check-good is in
+          (h .few, h .within, λ k there b. true-not-false (bad-says D k .1 b) (h .each k there))
+
+      fine : (k : ℕ) → ¬ Bad D k → Tested (badRecord (D .bytes) k) → badRecord (D .bytes) k ≡ false
+      fine k never (passes e) = absurd (never (bad-says D k .0 e))
+      fine k never (fails e) = e
+
+      back : (D .count ≤ mostRecords) × (D .count * recordSize ≤ length (D .bytes)) × ((k : ℕ) → IsRecord D k → ¬ Bad D k) → drawerAnswer D ≡ accepted
+      back h = good-check (record { few = h .0; within = h .1; each = λ k there. fine k (h .2 k there) (tested (badRecord (D .bytes) k)) })
 
 module _ {D : Drawer} (h : GoodDrawer D) where
   pub record-sound : (k : ℕ) → IsRecord D k → Sound (recordAt (D .bytes) k)
@@ -175,3 +210,45 @@ module _ (g : Given) (D : Drawer) (checked : checkAnswer g ≡ accepted) (fine :
           at : (recordOf (layoutOf g) D ≡ 0) ⊎ (0 < recordOf (layoutOf g) D) → searchAnswer g D .number ≡ 15
           at (inl z) = ap (λ (a : SearchAnswer). a .number) (search-none z)
           at (inr some-record) = absurd (none (recordOf (layoutOf g) D) (search-tells (recordOf (layoutOf g) D) _ .0 (search-found some-record) .0))
+
+-- a record inside the bytes is 2,048 bytes long
+length-recordAt : {D : Drawer} → GoodDrawer D → (k : ℕ) → IsRecord D k → length (recordAt (D .bytes) k) ≡ recordSize
+unfolding recordAt
+length-recordAt {D} h k there =
+    let k-is : k ≡ suc (k - 1) = omega arith in
+    let high : k * recordSize ≤ D .count * recordSize = mul-le-mul-right recordSize (there .1) in
+    let ends : k * recordSize ≡ (k - 1) * recordSize + recordSize = ap (λ (j : ℕ). j * recordSize) k-is ∙ suc-mul (k - 1) recordSize in
+    length-take-le recordSize (drop ((k - 1) * recordSize) (D .bytes)) (rw length-drop (omega (arith, h .within)))
+
+-- the bytes handed back
+module _ (g : Given) (D : Drawer) where
+  -- where search accepts, it has come to a record
+  pub search-passed : accepts (judgeSearch g D) ≡ true → GoodDrawer D × (1 ≤ recordOf (layoutOf g) D)
+  unfolding judgeSearch
+  search-passed e =
+      let k = recordOf (layoutOf g) D in
+      let rest = inOrder-both (checkAnswer g) (drawerAnswer D ∷ unless (leb 1 k) 15 0 ∷ []) e .1 in
+      let last = inOrder-both (drawerAnswer D) (unless (leb 1 k) 15 0 ∷ []) rest in (
+        check-good D (drawer-whole D (last .0)),
+        leb-true 1 k (unless-holds (leb 1 k) 15 0 (omega arith) (inOrder-both (unless (leb 1 k) 15 0) [] (last .1) .0)),
+      )
+
+  pub own-accepted : accepts (judgeSearch g D) ≡ true → (ownBytes g D ≡ recordAt (D .bytes) (searchAnswer g D .at)) × (length (ownBytes g D) ≡ recordSize)
+  unfolding ownBytes searchAnswer
+  own-accepted e =
+      let h = search-passed e in
+      let f = recordOf-found D (layoutOf g) (h .1) in
+      (simp (e, e), simp e (length-recordAt (h .0) (recordOf (layoutOf g) D) (f .0)))
+
+  pub own-refused : accepts (judgeSearch g D) ≡ false → ownBytes g D ≡ []
+  unfolding ownBytes
+  own-refused e = simp e
+
+  -- number 0 says that search accepts
+  pub own-bytes : (searchAnswer g D .number ≡ 0 → (ownBytes g D ≡ recordAt (D .bytes) (searchAnswer g D .at)) × (length (ownBytes g D) ≡ recordSize)) × (¬ (searchAnswer g D .number ≡ 0) → ownBytes g D ≡ [])
+  unfolding searchAnswer accepts
+  own-bytes = at (tested (accepts (judgeSearch g D)))
+    where
+      at : Tested (accepts (judgeSearch g D)) → (searchAnswer g D .number ≡ 0 → (ownBytes g D ≡ recordAt (D .bytes) (searchAnswer g D .at)) × (length (ownBytes g D) ≡ recordSize)) × (¬ (searchAnswer g D .number ≡ 0) → ownBytes g D ≡ [])
+      at (passes e) = (λ is. own-accepted e, λ other. absurd (other (simp e)))
+      at (fails e) = (λ is. absurd (true-not-false (eq-eqb (judgeSearch g D .number) 0 (simp e at is)) e), λ other. own-refused e)

@@ -10,8 +10,8 @@
 -- Assumes nothing.
 use Prim.Native.Nat.{ℕ, zero, suc, _+_, _-_, _*_, _≤_, _<_}
 use mathlib.Core.Path.{_≡_, refl, sym, ap, _∙_}
-use mathlib.Core.Bool.{Bool, true, false}
-use mathlib.Core.List.{List, _∷_, _++_, append-assoc}
+use mathlib.Core.Bool.{true, false}
+use mathlib.Core.List.{List, _++_, append-assoc}
 use mathlib.Core.Logic.{_⊎_, inl, inr, ⊎-elim}
 use native.Mathlib.Omega.{arith}
 use native.Mathlib.Nat.{suc-mul, mul-le-mul-right, eq-or-lt-of-le}
@@ -22,9 +22,9 @@ use lib.Seq.{getD-take, getD-drop, getD-append-add, length-take-le, take-append-
 use lib.ListN.{length, take, drop, getD, length-append, length-drop, take-append-drop, List·getD-append}
 use Rattle.maps.specs.Least.{nth}
 use Rattle.maps.specs.Given.{Given, mapOf}
-use Rattle.maps.specs.Verdict.{Verdict, accepted, accepts, unless, atLeast, inOrder}
-use Rattle.maps.proofs.Least.{Tested, passes, fails, tested, true-not-false}
-use Rattle.maps.proofs.Verdict.{inOrder-accepts, inOrder-passed, inOrder-refused, unless-accepts}
+use Rattle.maps.specs.Verdict.{accepted, accepts, atLeast}
+use Rattle.maps.proofs.Least.{Tested, passes, fails, tested}
+use Rattle.maps.proofs.Verdict.{unless-accepts}
 use Rattle.maps.proofs.Lines.{both-pass}
 use Rattle.labels.specs.Judging.{checkAnswer}
 use Rattle.labels.specs.Theorems.{CheckAccepts}
@@ -38,22 +38,11 @@ use Rattle.drawer.specs.Theorems.{Elsewhere}
 use Rattle.drawer.proofs.Record.{length-recordBytes, filedIn-recordBytes}
 use Rattle.drawer.proofs.Reading.{Sound, filing-fits, signed-sound}
 use Rattle.drawer.proofs.Lines.{passed-sound, passed-first, sound-passed, recordOf-none, recordOfDie-none}
-use Rattle.drawer.proofs.Drawer.{GoodDrawer, check-good}
-
--- a list of verdicts that accepts
-pub inOrder-both : (v : Verdict) (vs : List Verdict) → accepts (inOrder (v ∷ vs)) ≡ true → (accepts v ≡ true) × (accepts (inOrder vs) ≡ true)
-inOrder-both v vs e = at (tested (accepts v))
-  where
-    at : Tested (accepts v) → (accepts v ≡ true) × (accepts (inOrder vs) ≡ true)
-    at (passes a) = (a, sym (ap accepts (inOrder-passed v vs a)) ∙ e)
-    at (fails a) = absurd (true-not-false (sym (ap accepts (inOrder-refused v vs a)) ∙ e) a)
+use Rattle.drawer.proofs.Drawer.{inOrder-both, unless-holds, drawer-whole, GoodDrawer, check-good}
 
 atLeast-none : (k p : ℕ) → 1 ≤ k → accepts (atLeast k p) ≡ true → p ≡ 0
 unfolding atLeast
 atLeast-none k p low e = eqb-true p 0 (sym (unless-accepts (eqb p 0) k p low) ∙ e)
-
-pub unless-holds : (b : Bool) (k p : ℕ) → 1 ≤ k → accepts (unless b k p) ≡ true → b ≡ true
-unless-holds b k p low e = sym (unless-accepts b k p low) ∙ e
 
 -- what an accepted filing has passed
 pub record Passed (die : ℕ) (g : Given) (D : Drawer) : Type 0 where
@@ -68,10 +57,6 @@ pub record Passed (die : ℕ) (g : Given) (D : Drawer) : Type 0 where
 check-whole : (g : Given) → accepts (checkAnswer g) ≡ true → checkAnswer g ≡ accepted
 unfolding checkAnswer
 check-whole g e = table-whole _ g e
-
-drawer-whole : (D : Drawer) → accepts (drawerAnswer D) ≡ true → drawerAnswer D ≡ accepted
-unfolding drawerAnswer
-drawer-whole D e = inOrder-accepts _ e
 
 module _ (die : ℕ) (g : Given) (D : Drawer) where
   pub filing-passed : accepts (judgeFiling die g D) ≡ true → Passed die g D

@@ -36,8 +36,8 @@ use Rattle.drawer.specs.Plain.{Call, checks, searches, fetches, files, A
 use Rattle.drawer.specs.Theorems.{drawerLeft, plainLeft, holding}
 use Rattle.drawer.proofs.Record.{Fits, length-recordBytes, filedIn-recordBytes}
 use Rattle.drawer.proofs.Reading.{filing-fits}
-use Rattle.drawer.proofs.Drawer.{GoodDrawer, good-check}
-use Rattle.drawer.proofs.Filing.{inOrder-both, unless-holds, filing-passed, written, filed-bytes, filed-count, stays-good, refused-bytes}
+use Rattle.drawer.proofs.Drawer.{inOrder-both, unless-holds, GoodDrawer, good-check}
+use Rattle.drawer.proofs.Filing.{filing-passed, written, filed-bytes, filed-count, stays-good, refused-bytes}
 
 -- the least number that passes, by the first
 module _ (p : ℕ → Bool) (k : ℕ) where

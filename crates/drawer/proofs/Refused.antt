@@ -9,7 +9,7 @@ use lib.ListN.{length, set, replicate}
 use Rattle.maps.specs.Given.{lent}
 use Rattle.maps.specs.Verdict.{Verdict}
 use Rattle.drawer.specs.Record.{Filed, Fault, wrong-dimension, wrong-size, no-die, zero-byte, filling, no-map, other-word, Reading, good, bad, recordBytes, readRecord}
-use Rattle.drawer.specs.Drawer.{drawer, mostRecords, drawerAnswer}
+use Rattle.drawer.specs.Drawer.{drawer, mostRecords, drawerAnswer, filedBytes}
 use Rattle.drawer.proofs.Opened.{opened}
 
 -- the record of a die with a table of dimension n
@@ -83,6 +83,9 @@ drawers =
     ∷ is (drawerAnswer (drawer 2 (chain 7 ++ chain 8))) 14 2
     ∷ is (drawerAnswer (drawer 2 (chain 7 ++ set (filed 8 1 1 (1 ∷ [])) 1000 1))) 14 2
     ∷ is (drawerAnswer (drawer 1 (chain 7 ++ chain 8))) 0 0
+    -- a die number that 4 bytes do not hold, which no caller can hand in, is not kept: so `StaysGood` bounds it
+    ∷ is (drawerAnswer (drawer 1 (filedBytes 4294967295 (lent 1 2 (2 ∷ 0 ∷ [])) (drawer 0 (replicate 2048 0))))) 0 0
+    ∷ is (drawerAnswer (drawer 1 (filedBytes 4294967296 (lent 1 2 (2 ∷ 0 ∷ [])) (drawer 0 (replicate 2048 0))))) 14 1
     ∷ []
 
 abbrev all : List Checked → Bool

@@ -3,10 +3,10 @@ use Prim.Native.Nat.{_+_}
 use mathlib.Core.Path.{_≡_, sym, ap, _∙_}
 use Rattle.drawer.specs.Record.{good, recordBytes, readRecord}
 use Rattle.drawer.specs.Drawer.{Drawer, drawer, filedBytes}
-use Rattle.drawer.specs.Theorems.{filedAs, RecordLong, ReadBack, BytesApart, SearchTells, FilesNext, KeepsOthers, RefusedKeeps, StaysGood, drawerLeft, PlainState}
+use Rattle.drawer.specs.Theorems.{filedAs, RecordLong, ReadBack, BytesApart, DrawerAccepts, SearchTells, OwnBytes, FilesNext, KeepsOthers, RefusedKeeps, StaysGood, drawerLeft, PlainState}
 use Rattle.drawer.proofs.Record.{length-recordBytes, recordBytes-below, below-nth, filedIn-recordBytes}
 use Rattle.drawer.proofs.Reading.{sound-good, filing-fits, signed-sound}
-use Rattle.drawer.proofs.Drawer.{good-check, search-tells, matches-once, search-fifteen}
+use Rattle.drawer.proofs.Drawer.{good-check, accepts-each, search-tells, matches-once, search-fifteen, own-bytes}
 use Rattle.drawer.proofs.Filing.{answer-accepts, answer-refuses, filed-count, kept-next, kept-before, kept-elsewhere, kept-long, stays-good, refused-bytes}
 use Rattle.drawer.proofs.Plain.{left-is, holding-none, held-none}
 
@@ -26,9 +26,17 @@ bytes-apart die die′ M M′ d d′ a a′ same =
     let readings : good (filedAs die M) ≡ good (filedAs die′ M′) = sym (read-back die M d a) ∙ ap readRecord same ∙ read-back die′ M′ d′ a′ in
     cc
 
+pub drawer-accepts : DrawerAccepts
+unfolding DrawerAccepts
+drawer-accepts D = accepts-each D
+
 pub search-tells-matchings : SearchTells
 unfolding SearchTells
 search-tells-matchings g D checked fine = (search-tells g D checked fine, matches-once g D checked fine, search-fifteen g D checked fine)
+
+pub search-own-bytes : OwnBytes
+unfolding OwnBytes
+search-own-bytes g D = own-bytes g D
 
 pub files-next : FilesNext
 unfolding FilesNext

@@ -4,8 +4,10 @@
 --     RecordLong        a filed layout has 2,048 bytes
 --     ReadBack          they are read back as the filed layout
 --     BytesApart        and two filed layouts have different bytes
+--     DrawerAccepts     the drawer check says yes exactly when no record is bad
 --     found k x         what search answers where it finds record k, of die x
 --     SearchTells       11: search finds the record whose layout has a matching with the map, the only one, and 15 where there is none
+--     OwnBytes          what search hands back: the bytes of the record that it names, or none
 --     FilesNext         an accepted filing writes the next record, and answers the new count
 --     KeepsOthers       it alters no other record and no other byte, beyond included
 --     RefusedKeeps      a refused one alters none
@@ -31,8 +33,8 @@ use Rattle.maps.specs.Verdict.{accepted}
 use Rattle.labels.specs.Judging.{checkAnswer}
 use Rattle.words.specs.Words.{signature}
 use Rattle.drawer.specs.Record.{Filed, good, recordSize, recordBytes, readRecord}
-use Rattle.drawer.specs.Drawer.{Drawer, drawer, recordAt, entryAt, layoutOf, SearchAnswer, drawerAnswer, searchAnswer, filingAnswer, filedBytes}
-use Rattle.drawer.specs.Lines.{IsRecord, layoutAt}
+use Rattle.drawer.specs.Drawer.{Drawer, drawer, mostRecords, recordAt, entryAt, layoutOf, SearchAnswer, drawerAnswer, searchAnswer, ownBytes, filingAnswer, filedBytes}
+use Rattle.drawer.specs.Lines.{IsRecord, layoutAt, Bad}
 use Rattle.drawer.specs.Plain.{Call, allFit, drawerAfter, plainAfter, roomIn}
 
 -- a die, with n, m and the signature of a map
@@ -59,6 +61,12 @@ BytesApart =
     → recordBytes (filedAs die M) ≡ recordBytes (filedAs die′ M′)
     → filedAs die M ≡ filedAs die′ M′
 
+-- 01: "A drawer check says yes exactly when no record is bad"; 13 is the count's
+unfoldable pub DrawerAccepts : Type 0
+DrawerAccepts =
+    (D : Drawer) → (drawerAnswer D ≡ accepted)
+    ↔ (D .count ≤ mostRecords) × (D .count * recordSize ≤ length (D .bytes)) × ((k : ℕ) → IsRecord D k → ¬ Bad D k)
+
 -- number 0, record k and die x
 abbrev pub found : ℕ → ℕ → SearchAnswer
 found k x = record { number = 0; place = 0; die = x; at = k }
@@ -74,6 +82,13 @@ SearchTells =
     → ((k x : ℕ) → (searchAnswer g D ≡ found k x) ↔ MatchesRecord g D k × (entryAt (D .bytes) k .die ≡ x))
     × ((j k : ℕ) → MatchesRecord g D j → MatchesRecord g D k → j ≡ k)
     × ((searchAnswer g D .number ≡ 15) ↔ ((k : ℕ) → ¬ MatchesRecord g D k))
+
+-- 01: "The record's own 2,048 bytes are handed back as that part of the drawer; with a refusal the part is empty"
+unfoldable pub OwnBytes : Type 0
+OwnBytes =
+    (g : Given) (D : Drawer)
+    → (searchAnswer g D .number ≡ 0 → (ownBytes g D ≡ recordAt (D .bytes) (searchAnswer g D .at)) × (length (ownBytes g D) ≡ recordSize))
+    × (¬ (searchAnswer g D .number ≡ 0) → ownBytes g D ≡ [])
 
 -- place p of the drawer's bytes, counted from 1, lies before or beyond the record after the last
 abbrev pub Elsewhere : Drawer → ℕ → Type 0

@@ -78,38 +78,36 @@ static size_t dart_with_bad_composition(const struct map *map) {
   return 0;
 }
 
-// Labels stand by dart, counted from 0; the queue has the darts in the order labelled.
+// labels[d] is the label of dart d, and labels[0] stays 0; the queue has the darts in the order
+// labelled.
 struct labelling {
   size_t length;
-  uint16_t labels[MOST_NUMBERS];
+  uint16_t labels[MOST_NUMBERS + 1];
   uint16_t queue[MOST_NUMBERS];
 };
 
 // The label of a dart met, which is the next one where it has none yet; 0 has label 0.
 static inline size_t visit(struct labelling *labelling, size_t dart) {
-  if (dart == 0) {
-    return 0;
-  }
-  size_t label = labelling->labels[dart - 1];
-  if (label == 0) {
+  size_t label = labelling->labels[dart];
+  if (label == 0 && dart != 0) {
     labelling->queue[labelling->length] = (uint16_t)dart;
     labelling->length++;
     label = labelling->length;
-    labelling->labels[dart - 1] = (uint16_t)label;
+    labelling->labels[dart] = (uint16_t)label;
   }
   return label;
 }
 
 static void begin(const struct map *map, struct labelling *labelling) {
   labelling->length = 0;
-  memset(labelling->labels, 0, map->m * sizeof labelling->labels[0]);
+  memset(labelling->labels, 0, (map->m + 1) * sizeof labelling->labels[0]);
 }
 
 // Only darts of the queue have labels, so nothing else needs clearing.
 static inline void forget(struct labelling *labelling) {
   for (size_t k = 0; k < labelling->length; k++) {
     size_t dart = labelling->queue[k];
-    labelling->labels[dart - 1] = 0;
+    labelling->labels[dart] = 0;
   }
   labelling->length = 0;
 }
@@ -127,7 +125,7 @@ static size_t dart_not_reached(const struct map *map, const uint16_t *beta0,
     }
   }
   for (size_t dart = 1; dart <= map->m; dart++) {
-    if (labelling->labels[dart - 1] == 0) {
+    if (labelling->labels[dart] == 0) {
       return dart;
     }
   }

@@ -10,7 +10,7 @@ static void write_word(const struct map *map, const struct labelling *labelling,
   for (size_t k = 0; k < map->m; k++) {
     const uint16_t *row = map->table + (labelling->queue[k] - 1) * n;
     for (size_t i = 0; i < n; i++) {
-      word[k * n + i] = row[i] == 0 ? 0 : labelling->labels[row[i] - 1];
+      word[k * n + i] = labelling->labels[row[i]];
     }
   }
 }

@@ -13,3 +13,4 @@ pub mod Sign
 pub mod Theorems
 pub mod Match
 pub mod MatchTheorems
+pub mod Own

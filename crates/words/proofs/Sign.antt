@@ -1,6 +1,7 @@
 -- The laws of `specs/Sign.antt`: what `signature` answers, from the verdict on its table and output.
 --     take-replicate           the first of equal numbers
 --     over-front, over-long    what is written over a list stands in front, and keeps its length
+--     Shown, shown-..          numbers copied one by one
 --     signed-refused           a refusal: its number and place, and the output as it was
 --     length-signature         a signature has n·m numbers
 --     signed-run               what the run has found, copied to the output, is the answer
@@ -10,16 +11,17 @@
 --                              an answer's numbers are those of the definition
 --     signing-shows            they are what the call's lines show
 -- Assumes nothing.
-use Prim.Native.Nat.{ℕ, zero, suc, _*_, _≤_}
+use Prim.Native.Nat.{ℕ, zero, suc, _+_, _*_, _≤_, _<_}
 use mathlib.Core.Path.{_≡_, refl, sym, ap, _∙_}
 use mathlib.Core.Bool.{Bool, true, false, cond}
 use mathlib.Core.List.{List, _∷_, _++_}
 use native.Mathlib.Omega.{arith}
-use native.Mathlib.Nat.{le-of-suc-le-suc}
+use native.Mathlib.Nat.{le-of-suc-le-suc, zero-add}
+use native.Mathlib.Numerals.{add-one}
 use borrow.Author.Tests.{leb-true, eqb-true, eqb-false}
 use lib.Dec.{eqb, leb}
-use lib.ListN.{length, take, drop, replicate, length-append, length-drop}
-use lib.Seq.{take-append-seam}
+use lib.ListN.{length, getD, set, take, drop, replicate, length-append, length-drop, length-set}
+use lib.Seq.{take-append-seam, take-length, paste-suc}
 use Rattle.maps.specs.Map.{Map}
 use Rattle.maps.specs.Accepted.{Accepted}
 use Rattle.maps.specs.Given.{Given, mapOf, Shaped}
@@ -55,6 +57,34 @@ over-front w held k e = rw (← e) (take-append-seam w (drop (length w) held))
 pub over-long : (w held : List ℕ) → length w ≤ length held → length (over w held) ≡ length held
 unfolding over
 over-long w held fits = simp (length-append, length-drop) (omega arith)
+
+-- output is the first i numbers of word, and then what was there
+pub record Shown (word output₀ output : List ℕ) (size i : ℕ) : Type 0 where
+  pub within : i ≤ size
+  pub long : length output ≡ length output₀
+  pub so-far : output ≡ take i word ++ drop i output₀
+
+pub shown-start : (word output : List ℕ) (size : ℕ) → Shown word output output size 0
+shown-start word output size = record { within = omega arith; long = refl; so-far = refl }
+
+module _ {word output₀ output : List ℕ} {size i : ℕ} (s : Shown word output₀ output size i) where
+  pub shown-turn : size ≤ length word → size ≤ length output₀ → i < size → Shown word output₀ (set output i (getD word i 0)) size (i + 1)
+  shown-turn source room turn =
+      record {
+        within = omega arith;
+        long = length-set output i (getD word i 0) ∙ s .long;
+        so-far = rw (s .so-far, add-one) (simp zero-add at (paste-suc output₀ 0 word i 0 (omega arith) (omega arith)));
+      }
+
+  pub shown-done : size ≤ i → output ≡ take size word ++ drop size output₀
+  shown-done past = let all : i ≡ size = omega (arith, s .within) in rw all at (s .so-far)
+
+-- the numbers copied stand in front
+pub shown-front : (word output₀ output : List ℕ) → output ≡ take (length word) word ++ drop (length word) output₀ → take (length word) output ≡ word
+unfolding over
+shown-front word output₀ output is =
+    let all : take (length word) word ≡ word = take-length word in
+    rw (is, all) (over-front word output₀ (length word) refl)
 
 -- a signature has n·m numbers
 pub length-signature : {M : Map} → Accepted M → length (signature M) ≡ M .dim * M .darts

@@ -5,6 +5,7 @@
 --                                        how each comes out
 --     lesser-less, lesser-same, lesser-greater
 --                                        which of the two is the lesser
+--     same-yields, less-told             what a start that came out so says of its word
 --     bestAfter, sideAt, startAfter, countAfter
 --                                        the best word once the first k starts are tried, how start k + 1 comes out against it, the
 --                                        least start that yields it and how many do
@@ -34,7 +35,7 @@ use Rattle.maps.proofs.Accepted.{darts-most}
 use Rattle.labels.specs.Queue.{labelIn, labelling}
 use Rattle.labels.proofs.Reached.{labelling-numbers}
 use Rattle.words.specs.Words.{word, same, less, lesser, leastWord, signature, yields, start, symmetries}
-use Rattle.words.specs.Inside.{sideOf, startedAt, countedAt}
+use Rattle.words.specs.Inside.{sideOf, isLess, isSame, startedAt, countedAt}
 use Rattle.words.specs.declared.engine.Side.{Side}
 use Rattle.words.specs.declared.engine.Side.the-variants.{Less, Same, Greater}
 use Rattle.words.proofs.Words.{length-word, nth-word}
@@ -98,6 +99,38 @@ module _ (w b : List ℕ) where
       at (before h) = let l = before-less h in lower (less-side l) l (lesser-less l)
       at (equal e) = level (same-side e) e (lesser-same e)
       at (after h) = let l = before-less h in higher (greater-side l) l (lesser-greater l)
+
+-- a start comes out the same exactly when it yields the word
+pub same-yields : (M : Map) (w : List ℕ) (d : ℕ) (s : Side) (b : Bool) → s ≡ sideOf (word M d) w → b ≡ isSame s → yields M w d ≡ b
+unfolding isSame
+same-yields M w d s b is told = at (against (word M d) w)
+  where
+    tells : (t : Side) → sideOf (word M d) w ≡ t → b ≡ isSame t
+    tells t e = told ∙ ap isSame (is ∙ e)
+
+    misses : (yields M w d ≡ true → ⊥) → yields M w d ≡ false
+    misses never = false-of-not-true (yields M w d) never
+
+    differs : (t : Side) → sideOf (word M d) w ≡ t → (t ≡ Same → ⊥) → yields M w d ≡ false
+    differs t e other = misses (λ y. other (sym e ∙ same-side (word M d) w (yields-word M w d y)))
+
+    at : Against (word M d) w → yields M w d ≡ b
+    at (lower e h l) = differs Less e (λ z. let y : _≡_ {A = ℕ} 0 1 = cc in omega arith) ∙ sym (tells Less e)
+    at (level e h l) = word-yields M w d h ∙ sym (tells Same e)
+    at (higher e h l) = differs Greater e (λ z. let y : _≡_ {A = ℕ} 0 1 = cc in omega arith) ∙ sym (tells Greater e)
+
+-- and less exactly when its word is
+pub less-told : (w b : List ℕ) (s : Side) (t : Bool) → s ≡ sideOf w b → t ≡ isLess s → less w b ≡ t
+unfolding isLess
+less-told w b s t is told = at (against w b)
+  where
+    tells : (u : Side) → sideOf w b ≡ u → t ≡ isLess u
+    tells u e = told ∙ ap isLess (is ∙ e)
+
+    at : Against w b → less w b ≡ t
+    at (lower e h l) = h ∙ sym (tells Less e)
+    at (level e h l) = same-not-less w b h ∙ sym (tells Same e)
+    at (higher e h l) = greater-not-less w b h ∙ sym (tells Greater e)
 
 -- the best word once the first k starts are tried; before the first, numbers above all labels
 unfoldable pub bestAfter : Map → ℕ → List ℕ

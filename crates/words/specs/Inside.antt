@@ -10,6 +10,7 @@
 --     Starting, Signs             the signature's run may start, and has come to its end
 --     Copies, Copied              numbers may be copied to an output, and are
 --     Seeks, Sought               all starts may be tried against a word held, and the least that yields it is found
+--     HeldAs                      an array holds a table's numbers
 --     Images, Imaged              the images of a matching may be written, and are
 -- Assumes nothing.
 use Prim.Native.Nat.{ℕ, _+_, _*_, _≤_, _<_}
@@ -167,3 +168,8 @@ pub record Images (first second output : List ℕ) (m : ℕ) : Type 0 where
 
 pub record Imaged (first second output : List ℕ) (m : ℕ) (output′ : List ℕ) : Type 0 where
   pub written : output′ ≡ over (map (λ d. nth (take m second) (labelIn (take m first) d)) (upTo m)) output
+
+-- the first numbers of an array are those of the table
+pub record HeldAs (table held : List ℕ) : Type 0 where
+  pub long : length held ≡ 1020
+  pub numbers : take (length table) held ≡ table

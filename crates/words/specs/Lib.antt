@@ -4,4 +4,5 @@ pub mod Sign
 pub mod Theorems
 pub mod Match
 pub mod MatchTheorems
+pub mod Own
 pub mod Inside

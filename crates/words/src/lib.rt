@@ -2,7 +2,10 @@
 mod engine;
 mod least_word;
 mod matching;
+mod own_signature;
 
 pub use least_word::Signed;
 pub use least_word::signature;
 pub use matching::match_maps;
+pub use own_signature::Own;
+pub use own_signature::own_word;

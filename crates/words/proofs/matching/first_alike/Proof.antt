@@ -14,8 +14,7 @@ use Rattle.words.specs.Words.{word, yields}
 use Rattle.words.specs.Inside.{sideOf, leavesAt, isSame, Tried}
 use Rattle.words.specs.declared.engine.Side.{Side}
 use Rattle.words.specs.declared.engine.Side.the-variants.{Less, Same, Greater}
-use Rattle.words.proofs.Order.{yields-word, word-yields}
-use Rattle.words.proofs.Starts.{Against, lower, level, higher, against, same-side, false-of-not-true}
+use Rattle.words.proofs.Starts.{same-yields}
 use Rattle.words.proofs.matching.first_alike.Statement.{statement}
 use Rattle.words.proofs.matching.first_alike.Tie as tie
 
@@ -27,25 +26,6 @@ record Seeking (M : Map) (held₀ labels queue held : List ℕ) (d : ℕ) : Type
   long-queue : length queue ≡ 1020
   firm : held ≡ held₀
   so-far : Passed (yields M (take (M .dim * M .darts) held₀)) d
-
--- a start comes out the same exactly when it yields the word
-same-yields : (M : Map) (w : List ℕ) (d : ℕ) (s : Side) (b : Bool) → s ≡ sideOf (word M d) w → b ≡ isSame s → yields M w d ≡ b
-unfolding isSame
-same-yields M w d s b is told = at (against (word M d) w)
-  where
-    tells : (t : Side) → sideOf (word M d) w ≡ t → b ≡ isSame t
-    tells t e = told ∙ ap isSame (is ∙ e)
-
-    misses : (yields M w d ≡ true → ⊥) → yields M w d ≡ false
-    misses never = false-of-not-true (yields M w d) never
-
-    differs : (t : Side) → sideOf (word M d) w ≡ t → (t ≡ Same → ⊥) → yields M w d ≡ false
-    differs t e other = misses (λ y. other (sym e ∙ same-side (word M d) w (yields-word M w d y)))
-
-    at : Against (word M d) w → yields M w d ≡ b
-    at (lower e h l) = differs Less e (λ z. let y : _≡_ {A = ℕ} 0 1 = cc in omega arith) ∙ sym (tells Less e)
-    at (level e h l) = word-yields M w d h ∙ sym (tells Same e)
-    at (higher e h l) = differs Greater e (λ z. let y : _≡_ {A = ℕ} 0 1 = cc in omega arith) ∙ sym (tells Greater e)
 
 -- a start that comes out the same is not left
 same-stays : (s : Side) → isSame s ≡ true → leavesAt true s ≡ false

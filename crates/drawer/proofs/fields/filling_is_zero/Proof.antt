@@ -1,5 +1,5 @@
 -- `drawer::fields::filling_is_zero` meets its contract: what is left of the bytes has the answer of the whole. Assumes nothing.
-use Prim.Native.Nat.{_-_, _<_}
+use Prim.Native.Nat.{_-_}
 use mathlib.Core.Path.{_≡_, refl, sym, _∙_}
 use borrow.Author.Needs.{needs}
 use native.Mathlib.Omega.{arith}

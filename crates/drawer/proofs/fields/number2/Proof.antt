@@ -1,6 +1,4 @@
 -- `drawer::fields::number2` meets its contract: each byte is below 256. Assumes nothing.
-use Prim.Native.Nat.{_≤_}
-use mathlib.Core.Path.{sym}
 use borrow.Author.Needs.{needs}
 use native.Mathlib.Omega.{arith}
 use Rattle.drawer.proofs.Inside.{fromBytes-two}

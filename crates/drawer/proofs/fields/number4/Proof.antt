@@ -1,6 +1,4 @@
 -- `drawer::fields::number4` meets its contract: both halves are below 65,536. Assumes nothing.
-use Prim.Native.Nat.{_≤_}
-use mathlib.Core.Path.{sym}
 use borrow.Author.Needs.{needs}
 use native.Mathlib.Omega.{arith}
 use Rattle.drawer.proofs.Inside.{fromBytes-four}

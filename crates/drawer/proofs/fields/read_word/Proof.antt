@@ -1,7 +1,5 @@
 -- `drawer::fields::read_word` meets its contract: the word is copied number by number. Assumes nothing.
-use Prim.Native.Nat.{_+_, _-_, _*_, _≤_, _<_}
-use mathlib.Core.Path.{_≡_}
-use borrow.Author.Needs.{needs}
+use Prim.Native.Nat.{_-_}
 use native.Mathlib.Omega.{arith}
 use Rattle.drawer.proofs.Inside.{Copying, copying-start, copying-turn, copying-done}
 use Rattle.drawer.proofs.fields.read_word.Statement.{statement}

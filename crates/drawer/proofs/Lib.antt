@@ -9,3 +9,4 @@ pub mod Drawer
 pub mod Filing
 pub mod Plain
 pub mod Theorems
+pub mod Inside

@@ -4,3 +4,4 @@ pub mod Drawer
 pub mod Lines
 pub mod Plain
 pub mod Theorems
+pub mod Inside

@@ -1,2 +1,2 @@
-// Records, the drawer check, search, the record's own bytes, and filing.
-// Its definitions stand in specs/; its code is still to come.
+// Records, the drawer check, search, the record's own bytes, and filing. So far its definitions in specs/, and one record's fields.
+mod fields;

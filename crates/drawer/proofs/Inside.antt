@@ -1,0 +1,269 @@
+-- The laws behind the functions inside: numbers read from bytes, a word read number by number, a header, two records compared.
+--     fromBytes-two, fromBytes-four    what 2 and 4 bytes say, by their parts
+--     allZero-past, allZero-on, allZero-off
+--                                      a list of zeros, from an index on
+--     numbers-suc                      one number more
+--     Copying                          a word under way into an array
+--     readTable-header                 a record's reading is what its header leaves of it
+--     header-low, .. header-whole      a header, by the tests that led to it
+--     sameFrom                         two words are the same from an index on
+--     layout-parted-n, layout-parted-m, layout-by-word
+--                                      two layouts, by n, by m and by their words
+-- Assumes nothing.
+use Prim.Native.Nat.{ℕ, zero, suc, _+_, _-_, _*_, _≤_, _<_}
+use mathlib.Core.Path.{_≡_, refl, sym, ap, ap₂, _∙_}
+use mathlib.Core.Bool.{Bool, true, false, cond, _&&_}
+use mathlib.Core.List.{List, [], _∷_, _++_}
+use native.Mathlib.Omega.{arith}
+use native.Mathlib.Nat.{sub-zero}
+use native.Mathlib.Numerals.{add-one}
+use borrow.Author.Tests.{eq-eqb, ne-eqb, le-leb, lt-leb}
+use lib.Dec.{eqb, leb}
+use lib.Seq.{drop-cons, drop-drop, set-at, append-snoc}
+use lib.ListN.{length, getD, set, take, drop, drop-of-length-le}
+use Rattle.maps.specs.Least.{nth}
+use Rattle.maps.specs.Given.{Given}
+use Rattle.maps.specs.Verdict.{accepts}
+use Rattle.maps.specs.Rules.{judgeDimension, judgeSize}
+use Rattle.maps.proofs.Verdict.{unless-accepts}
+use Rattle.words.specs.Words.{same}
+use Rattle.drawer.specs.Record.{Fault, Reading, bad, fromBytes, numbers, filedIn, zeroByteIn, fillingIn, allZero, sameLayout, provided, readTable}
+use Rattle.drawer.specs.Inside.{headerOf, readingOf}
+use Rattle.drawer.specs.declared.fields.Header.{Header}
+use Rattle.drawer.specs.declared.fields.Header.the-variants.{Fields, WrongDimension, WrongSize, NoDie, WrongZeroByte, WrongFilling}
+use Rattle.drawer.proofs.Reading.{length-numbers}
+
+pub fromBytes-two : (bs : List ℕ) (at : ℕ) → at + 2 ≤ length bs → fromBytes (take 2 (drop at bs)) ≡ getD bs at 0 + 256 * getD bs (at + 1) 0
+unfolding fromBytes
+fromBytes-two bs at h =
+    rw (drop-cons bs at 0 (omega arith), drop-cons bs (suc at) 0 (omega arith), add-one at) (omega arith)
+
+pub fromBytes-four : (bs : List ℕ) (at : ℕ) → at + 4 ≤ length bs →
+    fromBytes (take 4 (drop at bs)) ≡ fromBytes (take 2 (drop at bs)) + 65536 * fromBytes (take 2 (drop (at + 2) bs))
+unfolding fromBytes
+fromBytes-four bs at h =
+    let two : at + 2 ≡ suc (suc at) = omega arith in
+    rw (two, drop-cons bs at 0 (omega arith), drop-cons bs (suc at) 0 (omega arith), drop-cons bs (suc (suc at)) 0 (omega arith), drop-cons bs (suc (suc (suc at))) 0 (omega arith))
+    (omega arith)
+
+-- past the end there is nothing but zeros
+pub allZero-past : (bs : List ℕ) (i : ℕ) → length bs ≤ i → allZero (drop i bs) ≡ true
+unfolding allZero
+allZero-past bs i h = rw (drop-of-length-le bs h)
+
+module _ (bs : List ℕ) (i : ℕ) (inside : i < length bs) where
+  -- a zero is passed
+  pub allZero-on : getD bs i 0 ≡ 0 → allZero (drop (i + 1) bs) ≡ allZero (drop i bs)
+  unfolding allZero
+  allZero-on e = rw (add-one i, drop-cons bs i 0 inside) (simp (eq-eqb (getD bs i 0) 0 e))
+
+  -- another byte decides
+  pub allZero-off : (getD bs i 0 ≡ 0 → ⊥) → allZero (drop i bs) ≡ false
+  unfolding allZero
+  allZero-off e = rw (drop-cons bs i 0 inside) (simp (ne-eqb (getD bs i 0) 0 e))
+
+pub numbers-suc : (k : ℕ) (bs : List ℕ) → numbers (suc k) bs ≡ numbers k bs ++ (fromBytes (take 2 (drop (2 * k) bs)) ∷ [])
+unfolding numbers
+numbers-suc zero bs = refl
+numbers-suc (suc k) bs =
+    let two : 2 * suc k ≡ 2 + 2 * k = omega arith in
+    ap (λ (l : List ℕ). fromBytes (take 2 bs) ∷ l)
+    (numbers-suc k (drop 2 bs) ∙ rw (two, drop-drop (2 * k) 2 bs))
+
+-- the first i numbers are copied, and what stands behind them is as it was
+pub record Copying (bs word₀ word : List ℕ) (size i : ℕ) : Type 0 where
+  pub high : i ≤ size
+  pub so-far : word ≡ numbers i (drop 8 bs) ++ drop i word₀
+
+pub copying-start : (bs word : List ℕ) (size : ℕ) → Copying bs word word size 0
+unfolding numbers
+copying-start bs word size = record { high = omega arith; so-far = refl }
+
+pub copying-turn : {bs word₀ word : List ℕ} {size i : ℕ} (x : ℕ) → Copying bs word₀ word size i → i < size → size ≤ length word₀ →
+    x ≡ fromBytes (take 2 (drop (8 + 2 * i) bs)) → Copying bs word₀ (set word i x) size (i + 1)
+copying-turn {bs} {word₀} {word} {size} {i} x s turn room is =
+    record {
+      high = omega arith;
+      so-far =
+          rw (s .so-far, drop-cons word₀ i 0 (omega arith))
+          (set-at (numbers i (drop 8 bs)) (getD word₀ i 0) (drop (suc i) word₀) x i (length-numbers i (drop 8 bs))
+          ∙ sym (rw (add-one i, numbers-suc i (drop 8 bs), drop-drop (2 * i) 8 bs, ← is) (append-snoc (numbers i (drop 8 bs)) x (drop (suc i) word₀))));
+    }
+
+pub copying-done : {bs word₀ word : List ℕ} {size i : ℕ} → Copying bs word₀ word size i → size ≤ i → word ≡ numbers size (drop 8 bs) ++ drop size word₀
+copying-done {bs} {word₀} {word} {size} {i} s past = let all : i ≡ size = omega arith in rw all at (s .so-far)
+
+provided-header : (b : Bool) (f : Fault) (rest : Reading) (h wrong : Header) (r : List ℕ) → rest ≡ readingOf h r → bad f ≡ readingOf wrong r →
+    provided b f rest ≡ readingOf (cond b h wrong) r
+unfolding provided
+provided-header true f rest h wrong r on off = on
+provided-header false f rest h wrong r on off = off
+
+pub readTable-header : (r : List ℕ) → readTable r ≡ readingOf (headerOf r) r
+unfolding readTable headerOf readingOf
+readTable-header r =
+    provided-header _ _ _ _ _ r
+    (provided-header _ _ _ _ _ r
+    (provided-header _ _ _ _ _ r
+    (provided-header _ _ _ _ _ r
+    (provided-header _ _ _ _ _ r refl refl)
+    refl)
+    refl)
+    refl)
+    refl
+
+-- the tests of 1 and 2, case by case
+module _ (l : Given) where
+  dimension-low : l .n ≡ 0 → accepts (judgeDimension l) ≡ false
+  unfolding judgeDimension
+  dimension-low e = rw (unless-accepts _ 1 0 (omega arith)) (simp (lt-leb 1 (l .n) (omega arith)))
+
+  dimension-high : 4 < l .n → accepts (judgeDimension l) ≡ false
+  unfolding judgeDimension
+  dimension-high h = rw (unless-accepts _ 1 0 (omega arith)) (simp (le-leb 1 (l .n) (omega arith), lt-leb (l .n) 4 (omega arith)))
+
+  dimension-fits : 1 ≤ l .n → l .n ≤ 4 → accepts (judgeDimension l) ≡ true
+  unfolding judgeDimension
+  dimension-fits low high = rw (unless-accepts _ 1 0 (omega arith)) (simp (le-leb 1 (l .n) (omega arith), le-leb (l .n) 4 (omega arith)))
+
+  size-none : l .m ≡ 0 → accepts (judgeSize l) ≡ false
+  unfolding judgeSize
+  size-none e = rw (unless-accepts _ 2 0 (omega arith)) (simp (lt-leb 1 (l .m) (omega arith)))
+
+  size-large : 1 ≤ l .m → 1020 < l .n * l .m → accepts (judgeSize l) ≡ false
+  unfolding judgeSize
+  size-large low h = rw (unless-accepts _ 2 0 (omega arith)) (simp (le-leb 1 (l .m) (omega arith), lt-leb (l .n * l .m) 1020 (omega arith)))
+
+  size-fits : 1 ≤ l .m → l .n * l .m ≤ 1020 → accepts (judgeSize l) ≡ true
+  unfolding judgeSize
+  size-fits low small = rw (unless-accepts _ 2 0 (omega arith)) (simp (le-leb 1 (l .m) (omega arith), le-leb (l .n * l .m) 1020 (omega arith)))
+
+-- where the fields stand
+pub byte-four : (r : List ℕ) → getD r 4 0 ≡ filedIn r .layout .n
+unfolding filedIn nth
+byte-four r = refl
+
+pub byte-five : (r : List ℕ) → getD r 5 0 ≡ zeroByteIn r
+unfolding zeroByteIn nth
+byte-five r = refl
+
+pub bytes-six : (r : List ℕ) → fromBytes (take 2 (drop 6 r)) ≡ filedIn r .layout .m
+unfolding filedIn
+bytes-six r = refl
+
+pub bytes-first : (r : List ℕ) → fromBytes (take 4 (drop 0 r)) ≡ filedIn r .die
+unfolding filedIn
+bytes-first r = refl
+
+-- the header, by the tests that led to it: `src/` makes them one after the other
+module _ (r : List ℕ) (n : ℕ) (is-n : n ≡ filedIn r .layout .n) where
+  pub header-low : n ≡ 0 → headerOf r ≡ WrongDimension
+  unfolding headerOf
+  header-low e = simp (dimension-low (filedIn r .layout) (sym is-n ∙ e))
+
+  pub header-high : 4 < n → headerOf r ≡ WrongDimension
+  unfolding headerOf
+  header-high h = simp (dimension-high (filedIn r .layout) (rw (← is-n) h))
+
+  module _ (some-n : n ≡ 0 → ⊥) (few-n : n ≤ 4) (m : ℕ) (is-m : m ≡ filedIn r .layout .m) where
+    dimension-passed : accepts (judgeDimension (filedIn r .layout)) ≡ true
+    dimension-passed = dimension-fits (filedIn r .layout) (rw (← is-n) (omega arith)) (rw (← is-n) few-n)
+
+    pub header-none : m ≡ 0 → headerOf r ≡ WrongSize
+    unfolding headerOf
+    header-none e = simp (dimension-passed, size-none (filedIn r .layout) (sym is-m ∙ e))
+
+    pub header-large : (m ≡ 0 → ⊥) → 1020 < n * m → headerOf r ≡ WrongSize
+    unfolding headerOf
+    header-large some-m h = simp (dimension-passed, size-large (filedIn r .layout) (rw (← is-m) (omega arith)) (rw (← is-n, ← is-m) h))
+
+    module _ (some-m : m ≡ 0 → ⊥) (small : n * m ≤ 1020) (die : ℕ) (is-die : die ≡ filedIn r .die) where
+      size-passed : accepts (judgeSize (filedIn r .layout)) ≡ true
+      size-passed = size-fits (filedIn r .layout) (rw (← is-m) (omega arith)) (rw (← is-n, ← is-m) small)
+
+      pub header-no-die : die ≡ 0 → headerOf r ≡ NoDie
+      unfolding headerOf
+      header-no-die e = simp (dimension-passed, size-passed, lt-leb 1 (filedIn r .die) (omega arith))
+
+      module _ (some-die : die ≡ 0 → ⊥) where
+        die-passed : leb 1 (filedIn r .die) ≡ true
+        die-passed = le-leb 1 (filedIn r .die) (omega arith)
+
+        pub header-byte : (getD r 5 0 ≡ 0 → ⊥) → headerOf r ≡ WrongZeroByte
+        unfolding headerOf
+        header-byte e = simp (dimension-passed, size-passed, die-passed, ne-eqb (zeroByteIn r) 0 (rw (← byte-five r) e))
+
+        module _ (zero-byte : getD r 5 0 ≡ 0) where
+          byte-passed : eqb (zeroByteIn r) 0 ≡ true
+          byte-passed = eq-eqb (zeroByteIn r) 0 (sym (byte-five r) ∙ zero-byte)
+
+          filling-at : drop (8 + 2 * (n * m)) r ≡ fillingIn r
+          unfolding fillingIn
+          filling-at = rw (is-n, is-m)
+
+          pub header-unfilled : allZero (drop (8 + 2 * (n * m)) r) ≡ false → headerOf r ≡ WrongFilling
+          unfolding headerOf
+          header-unfilled e = simp (dimension-passed, size-passed, die-passed, byte-passed, rw filling-at at e)
+
+          pub header-whole : allZero (drop (8 + 2 * (n * m)) r) ≡ true → headerOf r ≡ Fields die n m
+          unfolding headerOf
+          header-whole e = simp (dimension-passed, size-passed, die-passed, byte-passed, rw filling-at at e, ← is-die, ← is-n, ← is-m)
+
+-- two words of one size are the same from index i on
+abbrev pub sameFrom : List ℕ → List ℕ → ℕ → ℕ → Bool
+sameFrom r s size i = same (numbers (size - i) (drop (8 + 2 * i) r)) (numbers (size - i) (drop (8 + 2 * i) s))
+
+numbers-cons : (size i : ℕ) (r : List ℕ) → i < size →
+    numbers (size - i) (drop (8 + 2 * i) r) ≡ fromBytes (take 2 (drop (8 + 2 * i) r)) ∷ numbers (size - (i + 1)) (drop (8 + 2 * (i + 1)) r)
+unfolding numbers
+numbers-cons size i r h =
+    let more : size - i ≡ suc (size - (i + 1)) = omega arith in
+    let next : 8 + 2 * i + 2 ≡ 8 + 2 * (i + 1) = omega arith in
+    ap (λ (k : ℕ). numbers k (drop (8 + 2 * i) r)) more
+    ∙ ap (λ (l : List ℕ). fromBytes (take 2 (drop (8 + 2 * i) r)) ∷ numbers (size - (i + 1)) l) (drop-drop 2 (8 + 2 * i) r ∙ ap (λ (k : ℕ). drop k r) next)
+
+pub same-start : (r s : List ℕ) (size : ℕ) → sameFrom r s size 0 ≡ same (numbers size (drop 8 r)) (numbers size (drop 8 s))
+same-start r s size = rw (sub-zero size)
+
+module _ (r s : List ℕ) (size i : ℕ) where
+  pub same-past : size ≤ i → sameFrom r s size i ≡ true
+  unfolding same numbers
+  same-past h =
+      let none : size - i ≡ 0 = omega arith in
+      ap (λ (k : ℕ). same (numbers k (drop (8 + 2 * i) r)) (numbers k (drop (8 + 2 * i) s))) none
+
+  module _ (inside : i < size) (x y : ℕ) (is-x : x ≡ fromBytes (take 2 (drop (8 + 2 * i) r))) (is-y : y ≡ fromBytes (take 2 (drop (8 + 2 * i) s))) where
+    same-here : sameFrom r s size i ≡ eqb x y && sameFrom r s size (i + 1)
+    unfolding same
+    same-here =
+        ap₂ same (numbers-cons size i r inside) (numbers-cons size i s inside)
+        ∙ sym (ap₂ (λ (a b : ℕ). eqb a b && sameFrom r s size (i + 1)) is-x is-y)
+
+    pub same-on : x ≡ y → sameFrom r s size (i + 1) ≡ sameFrom r s size i
+    same-on e = sym (same-here ∙ simp (eq-eqb x y e))
+
+    pub same-off : (x ≡ y → ⊥) → sameFrom r s size i ≡ false
+    same-off e = same-here ∙ simp (ne-eqb x y e)
+
+-- the table that stands in a record
+table-is : (t : List ℕ) (k : ℕ) → k ≡ filedIn t .layout .n * filedIn t .layout .m → filedIn t .layout .table ≡ numbers k (drop 8 t)
+unfolding filedIn
+table-is t k e = sym (ap (λ (j : ℕ). numbers j (drop 8 t)) e)
+
+-- two layouts, by what is read of them
+module _ (r s : List ℕ) where
+  pub layout-parted-n : (filedIn r .layout .n ≡ filedIn s .layout .n → ⊥) → sameLayout (filedIn r .layout) (filedIn s .layout) ≡ false
+  unfolding sameLayout
+  layout-parted-n e = simp (ne-eqb (filedIn r .layout .n) (filedIn s .layout .n) e)
+
+  module _ (one-n : filedIn r .layout .n ≡ filedIn s .layout .n) where
+    pub layout-parted-m : (filedIn r .layout .m ≡ filedIn s .layout .m → ⊥) → sameLayout (filedIn r .layout) (filedIn s .layout) ≡ false
+    unfolding sameLayout
+    layout-parted-m e = simp (eq-eqb (filedIn r .layout .n) (filedIn s .layout .n) one-n, ne-eqb (filedIn r .layout .m) (filedIn s .layout .m) e)
+
+    pub layout-by-word : filedIn r .layout .m ≡ filedIn s .layout .m → (size : ℕ) → size ≡ filedIn s .layout .n * filedIn s .layout .m →
+        sameLayout (filedIn r .layout) (filedIn s .layout) ≡ same (numbers size (drop 8 r)) (numbers size (drop 8 s))
+    unfolding sameLayout
+    layout-by-word one-m size is =
+        simp (eq-eqb (filedIn r .layout .n) (filedIn s .layout .n) one-n, eq-eqb (filedIn r .layout .m) (filedIn s .layout .m) one-m)
+        (ap₂ same (table-is r size (is ∙ sym (ap₂ (λ (a b : ℕ). a * b) one-n one-m))) (table-is s size is))

@@ -1,0 +1,162 @@
+// One record of 2,048 bytes: its fields as they stand there, and whether two records say the same.
+ghost use mathlib.Core.Path.{_≡_};
+ghost use mathlib.Core.List.{_++_};
+ghost use Prim.Native.Nat.{_+_, _≤_, _<_};
+ghost use lib.ListN.{length, take, drop};
+ghost use lib.Dec.{eqb};
+ghost use Rattle.words.specs.Words.{same};
+ghost use Rattle.drawer.specs.Record.{fromBytes, numbers, allZero, recordSize, filedIn, sameLayout};
+ghost use Rattle.drawer.specs.Inside.{HoldsWord, HoldsWords, Compares, headerOf};
+
+// The fields of a record, or the first of its faults, which are judged in document 01's order. The word is judged apart.
+pub(crate) enum Header {
+    Fields { die: u32, n: usize, m: usize },
+    WrongDimension,
+    WrongSize,
+    NoDie,
+    WrongZeroByte,
+    WrongFilling,
+}
+
+fn wide(x: u8) -> usize
+    ensures { λ r. ⌜ (r ≡ x) × (r < 256) ⌝ }
+{
+    x as usize
+}
+
+// The number that 2 bytes say, little end first.
+fn number2(bytes: &[u8], at: usize) -> usize
+    requires { ⌜ at + 2 ≤ length (now bytes) ⌝ }
+    ensures { λ r. ⌜ (r ≡ fromBytes (take 2 (drop at (now (bytes .entry))))) × (r < 65536) ⌝ }
+{
+    let low = wide(bytes[at]);
+    let high = wide(bytes[at + 1]);
+    low + 256 * high
+}
+
+// The number that 4 bytes say, little end first.
+fn number4(bytes: &[u8], at: usize) -> usize
+    requires { ⌜ at + 4 ≤ length (now bytes) ⌝ }
+    ensures { λ r. ⌜ (r ≡ fromBytes (take 4 (drop at (now (bytes .entry))))) × (r < 4294967296) ⌝ }
+{
+    let low = number2(bytes, at);
+    let high = number2(bytes, at + 2);
+    low + 65536 * high
+}
+
+// No byte from an index on is other than 0.
+fn filling_is_zero(bytes: &[u8], from: usize) -> bool
+    ensures { λ r. ⌜ r ≡ allZero (drop from (now (bytes .entry))) ⌝ }
+{
+    let mut i = from;
+    while i < bytes.len() {
+        if bytes[i] != 0 {
+            return false;
+        }
+        i += 1;
+    }
+    true
+}
+
+// The word is copied to the front of an array, whose rest is left as it was.
+pub(crate) fn read_word(bytes: &[u8], size: usize, word: &mut [u16; 1020])
+    requires { ⌜ HoldsWord size (now bytes) (now word) ⌝ }
+    ensures { λ _. ⌜ now (word .exit) ≡ numbers size (drop 8 (now (bytes .entry))) ++ drop size (now (word .entry)) ⌝ }
+{
+    let mut i = 0;
+    while i < size {
+        word[i] = number2(bytes, 8 + 2 * i) as u16;
+        i += 1;
+    }
+}
+
+fn die_of(bytes: &[u8]) -> u32
+    requires { ⌜ length (now bytes) ≡ recordSize ⌝ }
+    ensures { λ r. ⌜ r ≡ filedIn (now (bytes .entry)) .die ⌝ }
+{
+    number4(bytes, 0) as u32
+}
+
+fn dimension_of(bytes: &[u8]) -> usize
+    requires { ⌜ length (now bytes) ≡ recordSize ⌝ }
+    ensures { λ r. ⌜ r ≡ filedIn (now (bytes .entry)) .layout .n ⌝ }
+{
+    wide(bytes[4])
+}
+
+fn darts_of(bytes: &[u8]) -> usize
+    requires { ⌜ length (now bytes) ≡ recordSize ⌝ }
+    ensures { λ r. ⌜ (r ≡ filedIn (now (bytes .entry)) .layout .m) × (r < 65536) ⌝ }
+{
+    number2(bytes, 6)
+}
+
+// n and m come first, since they say where the filling starts.
+pub(crate) fn read_header(bytes: &[u8]) -> Header
+    requires { ⌜ length (now bytes) ≡ recordSize ⌝ }
+    ensures { λ r. ⌜ r ≡ headerOf (now (bytes .entry)) ⌝ }
+{
+    let n = dimension_of(bytes);
+    if n == 0 {
+        return Header::WrongDimension;
+    }
+    if 4 < n {
+        return Header::WrongDimension;
+    }
+    let m = darts_of(bytes);
+    if m == 0 {
+        return Header::WrongSize;
+    }
+    if 1020 < n * m {
+        return Header::WrongSize;
+    }
+    let die = die_of(bytes);
+    if die == 0 {
+        return Header::NoDie;
+    }
+    if bytes[5] != 0 {
+        return Header::WrongZeroByte;
+    }
+    if filling_is_zero(bytes, 8 + 2 * (n * m)) {
+        return Header::Fields { die, n, m };
+    }
+    Header::WrongFilling
+}
+
+// Two words of one size are the same.
+fn same_word(first: &[u8], second: &[u8], size: usize) -> bool
+    requires { ⌜ HoldsWords size (now first) (now second) ⌝ }
+    ensures { λ r. ⌜ r ≡ same (numbers size (drop 8 (now (first .entry)))) (numbers size (drop 8 (now (second .entry)))) ⌝ }
+{
+    let mut i = 0;
+    while i < size {
+        if number2(first, 8 + 2 * i) != number2(second, 8 + 2 * i) {
+            return false;
+        }
+        i += 1;
+    }
+    true
+}
+
+// Two records have one layout. Only the second's word need fit: the first's is not read where n or m differs.
+pub(crate) fn same_layout(first: &[u8], second: &[u8]) -> bool
+    requires { ⌜ Compares (now first) (now second) ⌝ }
+    ensures { λ r. ⌜ r ≡ sameLayout (filedIn (now (first .entry)) .layout) (filedIn (now (second .entry)) .layout) ⌝ }
+{
+    let n = dimension_of(second);
+    if dimension_of(first) != n {
+        return false;
+    }
+    let m = darts_of(second);
+    if darts_of(first) != m {
+        return false;
+    }
+    same_word(first, second, n * m)
+}
+
+pub(crate) fn same_die(first: &[u8], second: &[u8]) -> bool
+    requires { ⌜ (length (now first) ≡ recordSize) × (length (now second) ≡ recordSize) ⌝ }
+    ensures { λ r. ⌜ r ≡ eqb (filedIn (now (first .entry)) .die) (filedIn (now (second .entry)) .die) ⌝ }
+{
+    die_of(first) == die_of(second)
+}

@@ -6,7 +6,9 @@
 --     Copying                          a word under way into an array
 --     readTable-header                 a record's reading is what its header leaves of it
 --     header-low, .. header-whole      a header, by the tests that led to it
+--     header-known                     what a header with its fields says of its record: `Known`
 --     sameFrom                         two words are the same from an index on
+--     table-is, copied-table           the table of a record, as its bytes say and as it was copied
 --     layout-parted-n, layout-parted-m, layout-by-word
 --                                      two layouts, by n, by m and by their words
 -- Assumes nothing.
@@ -19,19 +21,21 @@ use native.Mathlib.Nat.{sub-zero}
 use native.Mathlib.Numerals.{add-one}
 use borrow.Author.Tests.{eq-eqb, ne-eqb, le-leb, lt-leb}
 use lib.Dec.{eqb, leb}
-use lib.Seq.{drop-cons, drop-drop, set-at, append-snoc}
+use lib.Seq.{drop-cons, drop-drop, set-at, take-at, append-snoc}
 use lib.ListN.{length, getD, set, take, drop, drop-of-length-le}
 use Rattle.maps.specs.Least.{nth}
+use Rattle.maps.specs.Accepted.{InBounds}
 use Rattle.maps.specs.Given.{Given}
 use Rattle.maps.specs.Verdict.{accepts}
 use Rattle.maps.specs.Rules.{judgeDimension, judgeSize}
+use Rattle.maps.proofs.Least.{true-not-false}
 use Rattle.maps.proofs.Verdict.{unless-accepts}
 use Rattle.words.specs.Words.{same}
 use Rattle.drawer.specs.Record.{Fault, Reading, bad, fromBytes, numbers, filedIn, zeroByteIn, fillingIn, allZero, sameLayout, provided, readTable}
 use Rattle.drawer.specs.Inside.{headerOf, readingOf}
 use Rattle.drawer.specs.declared.fields.Header.{Header}
 use Rattle.drawer.specs.declared.fields.Header.the-variants.{Fields, WrongDimension, WrongSize, NoDie, WrongZeroByte, WrongFilling}
-use Rattle.drawer.proofs.Reading.{length-numbers}
+use Rattle.drawer.proofs.Reading.{accept-bounds, length-numbers}
 
 pub fromBytes-two : (bs : List ℕ) (at : ℕ) → at + 2 ≤ length bs → fromBytes (take 2 (drop at bs)) ≡ getD bs at 0 + 256 * getD bs (at + 1) 0
 unfolding fromBytes
@@ -155,6 +159,13 @@ pub bytes-first : (r : List ℕ) → fromBytes (take 4 (drop 0 r)) ≡ filedIn r
 unfolding filedIn
 bytes-first r = refl
 
+-- what a header with its fields says of its record
+pub record Known (r : List ℕ) (die n m : ℕ) : Type 0 where
+  pub is-die : die ≡ filedIn r .die
+  pub is-n : n ≡ filedIn r .layout .n
+  pub is-m : m ≡ filedIn r .layout .m
+  pub bounds : InBounds n m
+
 -- the header, by the tests that led to it: `src/` makes them one after the other
 module _ (r : List ℕ) (n : ℕ) (is-n : n ≡ filedIn r .layout .n) where
   pub header-low : n ≡ 0 → headerOf r ≡ WrongDimension
@@ -209,6 +220,38 @@ module _ (r : List ℕ) (n : ℕ) (is-n : n ≡ filedIn r .layout .n) where
           unfolding headerOf
           header-whole e = simp (dimension-passed, size-passed, die-passed, byte-passed, rw filling-at at e, ← is-die, ← is-n, ← is-m)
 
+-- a header that has its fields has passed each test
+isFields : Header → Bool
+isFields (Fields die n m) = true
+isFields WrongDimension = false
+isFields WrongSize = false
+isFields NoDie = false
+isFields WrongZeroByte = false
+isFields WrongFilling = false
+
+passed-on : (b : Bool) (h wrong : Header) (die n m : ℕ) → isFields wrong ≡ false → cond b h wrong ≡ Fields die n m → (b ≡ true) × (h ≡ Fields die n m)
+unfolding isFields
+passed-on true h wrong die n m other e = (refl, e)
+passed-on false h wrong die n m other e = absurd (true-not-false (ap isFields e) other)
+
+pub header-known : (r : List ℕ) (die n m : ℕ) → headerOf r ≡ Fields die n m → Known r die n m
+unfolding headerOf isFields
+header-known r die n m e =
+    let l : Given = filedIn r .layout in
+    let dim = passed-on (accepts (judgeDimension l)) _ WrongDimension die n m refl e in
+    let size = passed-on (accepts (judgeSize l)) _ WrongSize die n m refl (dim .1) in
+    let some-die = passed-on (leb 1 (filedIn r .die)) _ NoDie die n m refl (size .1) in
+    let byte = passed-on (eqb (zeroByteIn r) 0) _ WrongZeroByte die n m refl (some-die .1) in
+    let whole : Fields (filedIn r .die) (l .n) (l .m) ≡ Fields die n m = passed-on (allZero (fillingIn r)) _ WrongFilling die n m refl (byte .1) .1 in
+    let is-n : l .n ≡ n = cc in
+    let is-m : l .m ≡ m = cc in
+    record {
+      is-die = (cc);
+      is-n = sym is-n;
+      is-m = sym is-m;
+      bounds = rw (is-n, is-m) at (accept-bounds l (dim .0) (size .0));
+    }
+
 -- two words of one size are the same from index i on
 abbrev pub sameFrom : List ℕ → List ℕ → ℕ → ℕ → Bool
 sameFrom r s size i = same (numbers (size - i) (drop (8 + 2 * i) r)) (numbers (size - i) (drop (8 + 2 * i) s))
@@ -246,9 +289,15 @@ module _ (r s : List ℕ) (size i : ℕ) where
     same-off e = same-here ∙ simp (ne-eqb x y e)
 
 -- the table that stands in a record
-table-is : (t : List ℕ) (k : ℕ) → k ≡ filedIn t .layout .n * filedIn t .layout .m → filedIn t .layout .table ≡ numbers k (drop 8 t)
+pub table-is : (t : List ℕ) (k : ℕ) → k ≡ filedIn t .layout .n * filedIn t .layout .m → filedIn t .layout .table ≡ numbers k (drop 8 t)
 unfolding filedIn
 table-is t k e = sym (ap (λ (j : ℕ). numbers j (drop 8 t)) e)
+
+-- and the front of an array that it was copied to
+pub copied-table : (r word rest : List ℕ) (size : ℕ) → word ≡ numbers size (drop 8 r) ++ rest → size ≡ filedIn r .layout .n * filedIn r .layout .m →
+    take size word ≡ filedIn r .layout .table
+copied-table r word rest size e is =
+    ap (take size) e ∙ take-at (numbers size (drop 8 r)) rest size (length-numbers size (drop 8 r)) ∙ sym (table-is r size is)
 
 -- two layouts, by what is read of them
 module _ (r s : List ℕ) where

@@ -4,7 +4,7 @@
 --                                      a list of zeros, from an index on
 --     numbers-suc                      one number more
 --     Copying                          a word under way into an array
---     readTable-header                 a record's reading is what its header leaves of it
+--     header-reads                     a record's reading is what its header leaves of it: the word, or the header's fault
 --     header-low, .. header-whole      a header, by the tests that led to it
 --     header-known                     what a header with its fields says of its record: `Known`
 --     sameFrom                         two words are the same from an index on
@@ -25,16 +25,18 @@ use lib.Seq.{drop-cons, drop-drop, set-at, take-at, append-snoc}
 use lib.ListN.{length, getD, set, take, drop, drop-of-length-le}
 use Rattle.maps.specs.Least.{nth}
 use Rattle.maps.specs.Accepted.{InBounds}
-use Rattle.maps.specs.Given.{Given}
+use Rattle.maps.specs.Given.{Given, mapOf}
 use Rattle.maps.specs.Verdict.{accepts}
 use Rattle.maps.specs.Rules.{judgeDimension, judgeSize}
 use Rattle.maps.proofs.Least.{true-not-false}
 use Rattle.maps.proofs.Verdict.{unless-accepts}
+use Rattle.labels.specs.Judging.{judgeMap}
 use Rattle.words.specs.Words.{same}
-use Rattle.drawer.specs.Record.{Fault, Reading, bad, fromBytes, numbers, filedIn, zeroByteIn, fillingIn, allZero, sameLayout, provided, readTable}
+use Rattle.drawer.specs.Record as records
+use Rattle.drawer.specs.Record.{Fault, bad, good, no-map, fromBytes, numbers, filedIn, zeroByteIn, fillingIn, allZero, sameLayout, provided, readTable, asSigned, readRecord}
 use Rattle.drawer.specs.Inside.{headerOf, readingOf}
-use Rattle.drawer.specs.declared.fields.Header.{Header}
-use Rattle.drawer.specs.declared.fields.Header.the-variants.{Fields, WrongDimension, WrongSize, NoDie, WrongZeroByte, WrongFilling}
+use Rattle.drawer.specs.declared.fields.Reading.{Reading}
+use Rattle.drawer.specs.declared.fields.Reading.the-variants.{Layout, WrongDimension, WrongSize, NoDie, WrongZeroByte, WrongFilling, NoMap, OtherWord}
 use Rattle.drawer.proofs.Reading.{accept-bounds, length-numbers}
 
 pub fromBytes-two : (bs : List ℕ) (at : ℕ) → at + 2 ≤ length bs → fromBytes (take 2 (drop at bs)) ≡ getD bs at 0 + 256 * getD bs (at + 1) 0
@@ -97,24 +99,44 @@ copying-turn {bs} {word₀} {word} {size} {i} x s turn room is =
 pub copying-done : {bs word₀ word : List ℕ} {size i : ℕ} → Copying bs word₀ word size i → size ≤ i → word ≡ numbers size (drop 8 bs) ++ drop size word₀
 copying-done {bs} {word₀} {word} {size} {i} s past = let all : i ≡ size = omega arith in rw all at (s .so-far)
 
-provided-header : (b : Bool) (f : Fault) (rest : Reading) (h wrong : Header) (r : List ℕ) → rest ≡ readingOf h r → bad f ≡ readingOf wrong r →
-    provided b f rest ≡ readingOf (cond b h wrong) r
-unfolding provided
-provided-header true f rest h wrong r on off = on
-provided-header false f rest h wrong r on off = off
+-- a header that has its fields
+pub isLayout : Reading → Bool
+isLayout (Layout die n m) = true
+isLayout WrongDimension = false
+isLayout WrongSize = false
+isLayout NoDie = false
+isLayout WrongZeroByte = false
+isLayout WrongFilling = false
+isLayout (NoMap number place) = false
+isLayout OtherWord = false
 
-pub readTable-header : (r : List ℕ) → readTable r ≡ readingOf (headerOf r) r
-unfolding readTable headerOf readingOf
-readTable-header r =
-    provided-header _ _ _ _ _ r
-    (provided-header _ _ _ _ _ r
-    (provided-header _ _ _ _ _ r
-    (provided-header _ _ _ _ _ r
-    (provided-header _ _ _ _ _ r refl refl)
-    refl)
-    refl)
-    refl)
-    refl
+module _ (r : List ℕ) where
+  -- what is left to be read where the header has its fields: the word
+  abbrev pub wordRead : records.Reading
+  wordRead = let v = judgeMap (mapOf (filedIn r .layout)) in asSigned (provided (accepts v) (no-map v) (good (filedIn r)))
+
+  -- what a header leaves of the reading
+  abbrev left : Reading → records.Reading
+  left h = cond (isLayout h) wordRead (readingOf h r)
+
+  provided-header : (b : Bool) (f : Fault) (rest : records.Reading) (h wrong : Reading) → asSigned rest ≡ left h → bad f ≡ left wrong →
+      asSigned (provided b f rest) ≡ left (cond b h wrong)
+  unfolding provided asSigned
+  provided-header true f rest h wrong on off = on
+  provided-header false f rest h wrong on off = off
+
+  pub header-reads : readRecord r ≡ left (headerOf r)
+  unfolding readRecord readTable headerOf readingOf isLayout asSigned
+  header-reads =
+      provided-header _ _ _ _ _
+      (provided-header _ _ _ _ _
+      (provided-header _ _ _ _ _
+      (provided-header _ _ _ _ _
+      (provided-header _ _ _ _ _ refl refl)
+      refl)
+      refl)
+      refl)
+      refl
 
 -- the tests of 1 and 2, case by case
 module _ (l : Given) where
@@ -216,33 +238,25 @@ module _ (r : List ℕ) (n : ℕ) (is-n : n ≡ filedIn r .layout .n) where
           unfolding headerOf
           header-unfilled e = simp (dimension-passed, size-passed, die-passed, byte-passed, rw filling-at at e)
 
-          pub header-whole : allZero (drop (8 + 2 * (n * m)) r) ≡ true → headerOf r ≡ Fields die n m
+          pub header-whole : allZero (drop (8 + 2 * (n * m)) r) ≡ true → headerOf r ≡ Layout die n m
           unfolding headerOf
           header-whole e = simp (dimension-passed, size-passed, die-passed, byte-passed, rw filling-at at e, ← is-die, ← is-n, ← is-m)
 
 -- a header that has its fields has passed each test
-isFields : Header → Bool
-isFields (Fields die n m) = true
-isFields WrongDimension = false
-isFields WrongSize = false
-isFields NoDie = false
-isFields WrongZeroByte = false
-isFields WrongFilling = false
-
-passed-on : (b : Bool) (h wrong : Header) (die n m : ℕ) → isFields wrong ≡ false → cond b h wrong ≡ Fields die n m → (b ≡ true) × (h ≡ Fields die n m)
-unfolding isFields
+passed-on : (b : Bool) (h wrong : Reading) (die n m : ℕ) → isLayout wrong ≡ false → cond b h wrong ≡ Layout die n m → (b ≡ true) × (h ≡ Layout die n m)
+unfolding isLayout
 passed-on true h wrong die n m other e = (refl, e)
-passed-on false h wrong die n m other e = absurd (true-not-false (ap isFields e) other)
+passed-on false h wrong die n m other e = absurd (true-not-false (ap isLayout e) other)
 
-pub header-known : (r : List ℕ) (die n m : ℕ) → headerOf r ≡ Fields die n m → Known r die n m
-unfolding headerOf isFields
+pub header-known : (r : List ℕ) (die n m : ℕ) → headerOf r ≡ Layout die n m → Known r die n m
+unfolding headerOf isLayout
 header-known r die n m e =
     let l : Given = filedIn r .layout in
     let dim = passed-on (accepts (judgeDimension l)) _ WrongDimension die n m refl e in
     let size = passed-on (accepts (judgeSize l)) _ WrongSize die n m refl (dim .1) in
     let some-die = passed-on (leb 1 (filedIn r .die)) _ NoDie die n m refl (size .1) in
     let byte = passed-on (eqb (zeroByteIn r) 0) _ WrongZeroByte die n m refl (some-die .1) in
-    let whole : Fields (filedIn r .die) (l .n) (l .m) ≡ Fields die n m = passed-on (allZero (fillingIn r)) _ WrongFilling die n m refl (byte .1) .1 in
+    let whole : Layout (filedIn r .die) (l .n) (l .m) ≡ Layout die n m = passed-on (allZero (fillingIn r)) _ WrongFilling die n m refl (byte .1) .1 in
     let is-n : l .n ≡ n = cc in
     let is-m : l .m ≡ m = cc in
     record {

@@ -1,22 +1,34 @@
 -- For the functions inside: no public contract cites this file.
 --     HoldsWord size r word    the bytes r have a word of so many numbers, and the array has room for it
 --     HoldsWords size r s      the bytes r and s each have a word of so many numbers
---     Compares r s             two records whose layouts may be compared
---     headerOf r               the fields of the record r, or the first fault up to the filling; `readingOf` what this leaves to be read
+--     Comparable, Compares     a record whose word fits, and two records whose layouts may be compared
+--     headerOf r               the fields of the record r, or the first fault up to the filling
+--     readingOf h r            the reading of the record r that an answer stands for
+--     Within, HasRecord        so many records, or one of them, inside the lent bytes
+--     Seeks                    records, and one whose layout is looked for among them
+--     Puts, PutsWord, Writes   a number, a word or a whole record that an array has room for
+--     Made                     the record made of a die and a map
+--     nextAnswer               13, 14 and 16 to 18, of a die and a layout
+--     Copies                   a record, and room for it in a drawer
 -- Assumes nothing.
 use Prim.Native.Nat.{ℕ, _+_, _*_, _≤_}
 use mathlib.Core.Path.{_≡_}
-use mathlib.Core.Bool.{cond}
-use mathlib.Core.List.{List}
+use mathlib.Core.Bool.{true, cond, _&&_}
+use mathlib.Core.List.{List, [], _∷_}
 use lib.Dec.{eqb, leb}
-use lib.ListN.{length}
-use Rattle.maps.specs.Given.{mapOf}
-use Rattle.maps.specs.Verdict.{accepts}
+use lib.ListN.{length, drop, replicate}
+use Rattle.maps.specs.Given.{Given, lent, mapOf}
+use Rattle.maps.specs.Accepted.{InBounds}
+use Rattle.maps.specs.Verdict.{Verdict, refused, accepts, unless, atLeast, inOrder}
+use Rattle.maps.specs.Answer.{judgedOf}
+use Rattle.maps.specs.declared.Judged.{Judged}
 use Rattle.maps.specs.Rules.{judgeDimension, judgeSize}
-use Rattle.labels.specs.Judging.{judgeMap}
-use Rattle.drawer.specs.Record.{Reading, good, bad, wrong-dimension, wrong-size, no-die, zero-byte, filling, no-map, recordSize, filedIn, zeroByteIn, fillingIn, allZero, provided}
-use Rattle.drawer.specs.declared.fields.Header.{Header}
-use Rattle.drawer.specs.declared.fields.Header.the-variants.{Fields, WrongDimension, WrongSize, NoDie, WrongZeroByte, WrongFilling}
+use Rattle.labels.specs.Judging.{judgeMap, checkAnswer}
+use Rattle.drawer.specs.Record as records
+use Rattle.drawer.specs.Record.{good, bad, wrong-dimension, wrong-size, no-die, zero-byte, filling, no-map, other-word, numbers, recordSize, recordBytes, filedIn, zeroByteIn, fillingIn, allZero, provided}
+use Rattle.drawer.specs.Drawer.{Drawer, mostRecords, drawerAnswer, layoutOf, recordOf, recordOfDie}
+use Rattle.drawer.specs.declared.fields.Reading.{Reading}
+use Rattle.drawer.specs.declared.fields.Reading.the-variants.{Layout, WrongDimension, WrongSize, NoDie, WrongZeroByte, WrongFilling, NoMap, OtherWord}
 
 -- the bytes r have a word of so many numbers after the first eight bytes, and the array has room for it
 pub record HoldsWord (size : ℕ) (r word : List ℕ) : Type 0 where
@@ -30,14 +42,18 @@ pub record HoldsWords (size : ℕ) (r s : List ℕ) : Type 0 where
   pub first-long : 8 + 2 * size ≤ length r
   pub second-long : 8 + 2 * size ≤ length s
 
--- two records whose layouts may be compared: the second's word fits
+-- a record whose word fits
+pub record Comparable (filed : List ℕ) : Type 0 where
+  pub long : length filed ≡ recordSize
+  pub small : filedIn filed .layout .n * filedIn filed .layout .m ≤ 1020
+
+-- two records whose layouts may be compared
 pub record Compares (first second : List ℕ) : Type 0 where
   pub first-long : length first ≡ recordSize
-  pub second-long : length second ≡ recordSize
-  pub small : filedIn second .layout .n * filedIn second .layout .m ≤ 1020
+  pub second-fits : Comparable second
 
 -- the fields up to the filling, by the types of `src/`, or the first fault in `readTable`'s order
-unfoldable pub headerOf : List ℕ → Header
+unfoldable pub headerOf : List ℕ → Reading
 headerOf r =
     let f = filedIn r in
     let l = f .layout in
@@ -46,20 +62,73 @@ headerOf r =
     (cond (leb 1 (f .die))
     (cond (eqb (zeroByteIn r) 0)
     (cond (allZero (fillingIn r))
-    (Fields (f .die) (l .n) (l .m))
+    (Layout (f .die) (l .n) (l .m))
     WrongFilling)
     WrongZeroByte)
     NoDie)
     WrongSize)
     WrongDimension
 
--- what a header leaves of the reading of its record
-unfoldable pub readingOf : Header → List ℕ → Reading
-readingOf (Fields die n m) r =
-    let v = judgeMap (mapOf (filedIn r .layout)) in
-    provided (accepts v) (no-map v) (good (filedIn r))
+-- the reading that an answer of `src/` stands for, of the record r, where the word stays
+unfoldable pub readingOf : Reading → List ℕ → records.Reading
+readingOf (Layout die n m) r = good (record { die = die; layout = lent n m (numbers (n * m) (drop 8 r)) })
 readingOf WrongDimension r = bad wrong-dimension
 readingOf WrongSize r = bad wrong-size
 readingOf NoDie r = bad no-die
 readingOf WrongZeroByte r = bad zero-byte
 readingOf WrongFilling r = bad filling
+readingOf (NoMap number place) r = bad (no-map (refused number place))
+readingOf OtherWord r = bad other-word
+
+-- so many records lie inside the bytes
+pub record Within (count : ℕ) (bytes : List ℕ) : Type 0 where
+  pub few : count ≤ mostRecords
+  pub inside : count * recordSize ≤ length bytes
+
+-- and record k is one of them
+pub record HasRecord (k : ℕ) (bytes : List ℕ) : Type 0 where
+  pub low : 1 ≤ k
+  pub within : Within k bytes
+
+-- the layout of a record is looked for among so many
+pub record Seeks (count : ℕ) (bytes filed : List ℕ) : Type 0 where
+  pub within : Within count bytes
+  pub fits : Comparable filed
+
+-- a number in so many bytes has room
+pub record Puts (at size : ℕ) (filed : List ℕ) : Type 0 where
+  pub room : at + size ≤ recordSize
+  pub long : length filed ≡ recordSize
+
+-- a word of so many numbers has room, after the first eight bytes
+pub record PutsWord (size : ℕ) (word filed : List ℕ) : Type 0 where
+  pub few : size ≤ 1020
+  pub long-word : length word ≡ 1020
+  pub long : length filed ≡ recordSize
+
+-- a record of zeros, and a word for it
+pub record Writes (n m : ℕ) (word filed : List ℕ) : Type 0 where
+  pub bounds : InBounds n m
+  pub long-word : length word ≡ 1020
+  pub blank : filed ≡ replicate recordSize 0
+
+-- the answer r, and the record of a die and a map where the check accepts it
+pub record Made (die : ℕ) (g : Given) (r : Judged) (filed : List ℕ) : Type 0 where
+  pub answer : r ≡ judgedOf (checkAnswer g)
+  pub written : accepts (checkAnswer g) ≡ true → filed ≡ recordBytes (record { die = die; layout = layoutOf g })
+
+-- 13, 14 and 16 to 18, as `judgeFiling` has them
+unfoldable pub nextAnswer : ℕ → Given → Drawer → Verdict
+nextAnswer die l D =
+    inOrder
+    (drawerAnswer D
+    ∷ unless (leb 1 die) 16 0
+    ∷ atLeast 16 (recordOfDie die D)
+    ∷ atLeast 17 (recordOf l D)
+    ∷ unless (leb (D .count + 1) mostRecords && leb ((D .count + 1) * recordSize) (length (D .bytes))) 18 0
+    ∷ [])
+
+-- a record, and room for it in a drawer from an index on
+pub record Copies (filed : List ℕ) (from : ℕ) (bytes : List ℕ) : Type 0 where
+  pub long : length filed ≡ recordSize
+  pub room : from + recordSize ≤ length bytes

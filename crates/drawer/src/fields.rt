@@ -1,21 +1,26 @@
-// One record of 2,048 bytes: its fields as they stand there, and whether two records say the same.
+// One record of 2,048 bytes: its fields as they stand there, what reading it finds, and whether two records say the same.
 ghost use mathlib.Core.Path.{_≡_};
 ghost use mathlib.Core.List.{_++_};
 ghost use Prim.Native.Nat.{_+_, _≤_, _<_};
 ghost use lib.ListN.{length, take, drop};
 ghost use lib.Dec.{eqb};
 ghost use Rattle.words.specs.Words.{same};
-ghost use Rattle.drawer.specs.Record.{fromBytes, numbers, allZero, recordSize, filedIn, sameLayout};
-ghost use Rattle.drawer.specs.Inside.{HoldsWord, HoldsWords, Compares, headerOf};
+ghost use Rattle.drawer.specs.Record.{fromBytes, numbers, allZero, recordSize, filedIn, sameLayout, readRecord};
+ghost use Rattle.drawer.specs.Inside.{HoldsWord, HoldsWords, Compares, headerOf, readingOf};
+use words::Own;
 
-// The fields of a record, or the first of its faults, which are judged in document 01's order. The word is judged apart.
-pub(crate) enum Header {
-    Fields { die: u32, n: usize, m: usize },
+// What reading a record finds: a filed layout, whose word stays where it stands, or the first of the record's faults.
+pub(crate) enum Reading {
+    Layout { die: u32, n: usize, m: usize },
     WrongDimension,
     WrongSize,
     NoDie,
     WrongZeroByte,
     WrongFilling,
+    // The word is no accepted map: the number is 5 to 9.
+    NoMap { number: u32, place: usize },
+    // The word is an accepted map, and not its own signature.
+    OtherWord,
 }
 
 fn wide(x: u8) -> usize
@@ -70,7 +75,7 @@ pub(crate) fn read_word(bytes: &[u8], size: usize, word: &mut [u16; 1020])
     }
 }
 
-fn die_of(bytes: &[u8]) -> u32
+pub(crate) fn die_of(bytes: &[u8]) -> u32
     requires { ⌜ length (now bytes) ≡ recordSize ⌝ }
     ensures { λ r. ⌜ r ≡ filedIn (now (bytes .entry)) .die ⌝ }
 {
@@ -91,36 +96,55 @@ fn darts_of(bytes: &[u8]) -> usize
     number2(bytes, 6)
 }
 
-// n and m come first, since they say where the filling starts.
-pub(crate) fn read_header(bytes: &[u8]) -> Header
+// The reading of all but the word. n and m come first, since they say where the filling starts.
+pub(crate) fn read_header(bytes: &[u8]) -> Reading
     requires { ⌜ length (now bytes) ≡ recordSize ⌝ }
     ensures { λ r. ⌜ r ≡ headerOf (now (bytes .entry)) ⌝ }
 {
     let n = dimension_of(bytes);
     if n == 0 {
-        return Header::WrongDimension;
+        return Reading::WrongDimension;
     }
     if 4 < n {
-        return Header::WrongDimension;
+        return Reading::WrongDimension;
     }
     let m = darts_of(bytes);
     if m == 0 {
-        return Header::WrongSize;
+        return Reading::WrongSize;
     }
     if 1020 < n * m {
-        return Header::WrongSize;
+        return Reading::WrongSize;
     }
     let die = die_of(bytes);
     if die == 0 {
-        return Header::NoDie;
+        return Reading::NoDie;
     }
     if bytes[5] != 0 {
-        return Header::WrongZeroByte;
+        return Reading::WrongZeroByte;
     }
     if filling_is_zero(bytes, 8 + 2 * (n * m)) {
-        return Header::Fields { die, n, m };
+        return Reading::Layout { die, n, m };
     }
-    Header::WrongFilling
+    Reading::WrongFilling
+}
+
+// The reading of a record of a drawer, whose word must be its own signature.
+pub(crate) fn read_record(bytes: &[u8]) -> Reading
+    requires { ⌜ length (now bytes) ≡ recordSize ⌝ }
+    ensures { λ r. ⌜ readingOf r (now (bytes .entry)) ≡ readRecord (now (bytes .entry)) ⌝ }
+{
+    let header = read_header(bytes);
+    let Reading::Layout { die, n, m } = header else {
+        return header;
+    };
+    let size = n * m;
+    let mut word = [0u16; 1020];
+    read_word(bytes, size, &mut word);
+    match words::own_word(n, m, &word[..size]) {
+        Own::Signature => Reading::Layout { die, n, m },
+        Own::Other => Reading::OtherWord,
+        Own::Refused { number, place } => Reading::NoMap { number, place },
+    }
 }
 
 // Two words of one size are the same.

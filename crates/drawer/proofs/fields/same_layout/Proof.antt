@@ -40,16 +40,16 @@ returns-2 c =
     sym (layout-parted-m _ _ (one-n (second .before)) (λ e. c .if2 .taken (c .before .darts-of2 .ensures .0 ∙ e ∙ sym (second .darts-of .ensures .0))))
 
 mul-same-word : tie.Need-mul-same-word
-mul-same-word c = omega (arith, size c, start (if1 c) .pre .small)
+mul-same-word c = omega (arith, size c, start (if1 c) .pre .second-fits .small)
 
 same-word-requires : tie.Need-same-word-requires
 unfolding recordSize
 same-word-requires c κs =
     let pre = start (if1 c) .pre in
     record {
-      few = rw (size c) (pre .small);
-      first-long = omega (arith, size c, pre .small, pre .first-long);
-      second-long = omega (arith, size c, pre .small, pre .second-long);
+      few = rw (size c) (pre .second-fits .small);
+      first-long = omega (arith, size c, pre .second-fits .small, pre .first-long);
+      second-long = omega (arith, size c, pre .second-fits .small, pre .second-fits .long);
     }
 
 returns-3 : tie.Need-returns-3

@@ -11,3 +11,4 @@ pub mod Plain
 pub mod Theorems
 pub mod Inside
 pub mod Checking
+pub mod Writing

@@ -6,8 +6,8 @@
 --                           so the least that passes is k, or there is none
 --     bad-read, bad-die, bad-else
 --                           whether record k is bad, by its reading and the records before it
---     passed-on, passed-last
---                           a list of verdicts whose first is accepted
+--     passed-on, passed-last, atLeast-none
+--                           verdicts that accept
 --     checked-over, checked-bad, checked-good
 --                           what the drawer check answers, by the count, the bytes and the least bad record
 -- Assumes nothing.
@@ -193,6 +193,11 @@ pub passed-last : (v : Verdict) → v ≡ accepted → inOrder (v ∷ []) ≡ ac
 unfolding inOrder
 passed-last v is = passed-on v [] is
 
+-- a verdict by the least wrong place, where there is none
+pub atLeast-none : (k p : ℕ) → p ≡ 0 → atLeast k p ≡ accepted
+unfolding atLeast
+atLeast-none k p none = unless-passed _ k p (eq-eqb p 0 none)
+
 pub judged-accepted : {v : Verdict} → v ≡ accepted → Passed ≡ judgedOf v
 unfolding judgedOf accepts accepted
 judged-accepted is = rw is refl
@@ -214,5 +219,5 @@ module _ (count : ℕ) (bytes : List ℕ) where
         ∙ inOrder-first _ _ 14 k (omega arith) (ap (atLeast 14) (sym is) ∙ atLeast-some 14 k some-record)
 
     pub checked-good : 0 ≡ least count (badRecord bytes) → drawerAnswer (drawer count bytes) ≡ accepted
-    unfolding drawerAnswer judgeRecords atLeast
-    checked-good none = passed-on _ _ count-fits ∙ passed-last _ (unless-passed _ 14 _ (eq-eqb _ 0 (sym none)))
+    unfolding drawerAnswer judgeRecords
+    checked-good none = passed-on _ _ count-fits ∙ passed-last _ (atLeast-none 14 _ (sym none))

@@ -12,3 +12,4 @@ pub mod Theorems
 pub mod Inside
 pub mod Checking
 pub mod Writing
+pub mod Calls

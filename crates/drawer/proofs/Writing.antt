@@ -4,17 +4,44 @@
 --     Begun, begun-..       a list begun anew, with what stood there behind
 --     tableBytes-suc        one number more of a word
 --     PuttingWord, word-..  a word put number by number
+--     blank, blank-..       a record of zeros, begun anew
+--     table-put             the record is whole once its word is put
+--     room-enough           an output with room for every word is as good as none
+--     made-refused, made-passed
+--                           the answer of making a record, from what the signature call answers
+--     signed-bounds, signed-long
+--                           what an accepted map's word is written with
 -- Assumes nothing.
 use Prim.Native.Nat.{ℕ, zero, suc, _+_, _-_, _*_, _/_, _%_, _≤_, _<_}
 use mathlib.Core.Path.{_≡_, refl, sym, ap, _∙_}
+use mathlib.Core.Bool.{true, false, cond}
 use mathlib.Core.List.{List, [], _∷_, _++_, flatMap, append-nil, append-assoc}
 use native.Mathlib.Omega.{arith}
 use native.Mathlib.Nat.{sub-zero}
 use native.Mathlib.Numerals.{add-one}
+use borrow.Author.Tests.{le-leb}
 use lib.Seq.{length-take-le, take-all, take-suc, drop-cons, append-snoc, drop-drop, take-at, drop-at, paste, paste-zero, paste-suc, length-paste}
-use lib.ListN.{length, getD, set, take, drop, length-append, length-drop, take-append-drop}
-use Rattle.drawer.specs.Record.{toBytes}
-use Rattle.drawer.proofs.Record.{length-toBytes, tableBytes}
+use lib.ListN.{length, getD, set, take, drop, replicate, length-append, length-drop, take-append-drop, length-replicate, getD-replicate}
+use Rattle.maps.specs.Given.{Given, lent, mapOf}
+use Rattle.maps.specs.Accepted.{InBounds}
+use Rattle.maps.specs.Verdict.{Verdict, accepts, inOrder}
+use Rattle.maps.specs.Rules.{judgeShape, judgeOutput}
+use Rattle.maps.specs.Answer.{judgedOf}
+use Rattle.maps.specs.declared.Judged.the-variants as judged
+use Rattle.maps.specs.declared.Output.the-variants as output
+use Rattle.maps.proofs.Least.{Tested, passes, fails, tested, true-not-false}
+use Rattle.maps.proofs.Verdict.{inOrder-refused, inOrder-accepts, unless-passed}
+use Rattle.maps.proofs.Lines.{shows-clear, shape-shows, shape-clear}
+use Rattle.labels.specs.Judging.{judgeMap, tableAnswer, checkAnswer}
+use Rattle.words.specs.Words.{start, symmetries, signature}
+use Rattle.words.specs.Sign.{signedOf, signatureAnswer, signatureOutput, SignsAs}
+use Rattle.words.specs.declared.least_word.Signed.{Signed}
+use Rattle.words.specs.declared.least_word.Signed.the-variants.{Word, Refused}
+use Rattle.words.proofs.Sign.{over-front, over-long, length-signature, signing-shaped, signing-accepted, signing-room}
+use Rattle.drawer.specs.Record.{toBytes, recordSize, recordBytes}
+use Rattle.drawer.specs.Drawer.{layoutOf}
+use Rattle.drawer.specs.Inside.{Made}
+use Rattle.drawer.proofs.Record.{length-toBytes, tableBytes, length-tableBytes}
 
 -- the first i of the `size` bytes s stand in d from `at` on, and all else is as it was
 pub record Laid (d : List ℕ) (at : ℕ) (s : List ℕ) (size : ℕ) (filed : List ℕ) (i : ℕ) : Type 0 where
@@ -91,6 +118,10 @@ module _ {front : List ℕ} {at : ℕ} {d filed : List ℕ} (b : Begun front at 
         stands = is ∙ rw (before, behind) (sym (append-assoc front bytes (drop (at + k) d)));
       }
 
+  pub begun-number : (size x : ℕ) {filed′ : List ℕ} → filed′ ≡ take at filed ++ (toBytes size x ++ drop (at + size) filed) →
+      Begun (front ++ toBytes size x) (at + size) d filed′
+  begun-number size x is = begun-put (toBytes size x) size (length-toBytes size x) is
+
   -- so is a byte that is left as it was
   pub begun-pass : at < length d → Begun (front ++ (getD d at 0 ∷ [])) (at + 1) d filed
   begun-pass inside =
@@ -124,7 +155,7 @@ module _ {d word : List ℕ} {size : ℕ} {filed : List ℕ} {i : ℕ} (p : Putt
       filed′ ≡ take (8 + 2 * i) filed ++ (toBytes 2 x ++ drop (8 + 2 * i + 2) filed) → PuttingWord d word size filed′ (i + 1)
   word-turn x is-x turn room is =
       let two : 8 + 2 * i + 2 ≡ 8 + 2 * (i + 1) = omega arith in
-      let more = begun-put (p .begun) (toBytes 2 x) 2 (length-toBytes 2 x) is in
+      let more = begun-number (p .begun) 2 x is in
       record {
         high = omega arith;
         begun = rw (tableBytes-suc word i (omega arith), ← is-x, ← append-assoc, ← two) more;
@@ -134,3 +165,127 @@ module _ {d word : List ℕ} {size : ℕ} {filed : List ℕ} {i : ℕ} (p : Putt
   word-done past =
       let all : i ≡ size = omega arith in
       (rw all at (p .begun .stands)) ∙ append-assoc (take 8 d) (tableBytes (take size word)) (drop (8 + 2 * size) d)
+
+drop-replicate : (k n x : ℕ) → drop k (replicate n x) ≡ replicate (n - k) x
+drop-replicate zero n x = rw (sub-zero n)
+drop-replicate (suc k) zero x = let none : 0 - suc k ≡ 0 = omega arith in rw none
+drop-replicate (suc k) (suc n) x =
+    let less : suc n - suc k ≡ n - k = omega arith in
+    rw less (drop-replicate k n x)
+
+-- a record of zeros
+abbrev pub blank : List ℕ
+blank = replicate recordSize 0
+
+length-blank : length blank ≡ recordSize
+length-blank = length-replicate recordSize 0
+
+pub blank-long : {front : List ℕ} {at : ℕ} {filed : List ℕ} → Begun front at blank filed → at ≤ recordSize → length filed ≡ recordSize
+blank-long b h = begun-long b (omega (arith, length-blank)) ∙ length-blank
+
+pub blank-start : {filed : List ℕ} → filed ≡ blank → Begun [] 0 blank filed
+blank-start is = record { long = refl; stands = is }
+
+-- a byte that stays 0
+pub blank-pass : {front : List ℕ} {at : ℕ} {filed : List ℕ} → Begun front at blank filed → at < recordSize → Begun (front ++ (0 ∷ [])) (at + 1) blank filed
+blank-pass {at = at} b inside =
+    let nought : getD blank at 0 ≡ 0 = getD-replicate recordSize at 0 0 inside in
+    rw nought at (begun-pass b (rw length-blank inside))
+
+-- the word is put behind the fields, and the record is whole
+pub table-put : (die n m : ℕ) (w : List ℕ) {filed filed′ : List ℕ} → length w ≡ n * m → Begun (toBytes 4 die ++ toBytes 1 n ++ (0 ∷ []) ++ toBytes 2 m) 8 blank filed →
+    filed′ ≡ take 8 filed ++ (tableBytes w ++ drop (8 + 2 * (n * m)) filed) → filed′ ≡ recordBytes (record { die = die; layout = lent n m w })
+unfolding recordBytes
+table-put die n m w long b put =
+    let less : recordSize - (8 + 2 * (n * m)) ≡ recordSize - 8 - 2 * (n * m) = omega arith in
+    begun-put b (tableBytes w) (2 * (n * m)) (length-tableBytes w ∙ ap (λ (k : ℕ). 2 * k) long) put .stands
+    ∙ ap (λ (l : List ℕ). toBytes 4 die ++ toBytes 1 n ++ (0 ∷ []) ++ toBytes 2 m ++ tableBytes w ++ l)
+    (drop-replicate (8 + 2 * (n * m)) recordSize 0 ∙ ap (λ (k : ℕ). replicate k 0) less)
+
+-- an output with room for 1,020 numbers is as good as none: 2 comes before 4
+pub room-enough : (g : Given) (room : ℕ) → 1020 ≤ room → tableAnswer (output.Word room) g ≡ checkAnswer g
+unfolding checkAnswer tableAnswer judgeOutput judgeShape
+room-enough g room enough = at (tested (accepts (judgeShape g)))
+  where
+    at : Tested (accepts (judgeShape g)) → tableAnswer (output.Word room) g ≡ checkAnswer g
+    at (fails e) = inOrder-refused _ _ e ∙ sym (inOrder-refused _ _ e)
+    at (passes e) =
+        let shaped = shape-clear g .0 (shows-clear (shape-shows g) (inOrder-accepts _ e)) in
+        let small = shaped .bounds .table-most in
+        ap (λ (v : Verdict). inOrder (judgeShape g ∷ v ∷ judgeMap (mapOf g) ∷ [])) (unless-passed _ 4 0 (le-leb (g .n * g .m) room (omega arith)))
+
+-- the answer of the signature call, by the verdict on its table and output
+signed-by : (g : Given) (room : ℕ) →
+    let v = tableAnswer (output.Word room) g in
+    signedOf (signatureAnswer g room) ≡ cond (accepts v) (Word (start (mapOf g)) (symmetries (mapOf g))) (Refused (v .number) (v .place))
+unfolding signedOf signatureAnswer accepts
+signed-by g room = at (tested (accepts (tableAnswer (output.Word room) g)))
+  where
+    at : Tested (accepts (tableAnswer (output.Word room) g)) →
+        let v = tableAnswer (output.Word room) g in
+        signedOf (signatureAnswer g room) ≡ cond (accepts v) (Word (start (mapOf g)) (symmetries (mapOf g))) (Refused (v .number) (v .place))
+    at (passes e) = simp e
+    at (fails e) = simp (e, e)
+
+-- the record of a die and a map, where the signature call has written its word to an output with room enough
+module _ (die : ℕ) (g : Given) (held : List ℕ) (enough : 1020 ≤ length held) {s : Signed} {word : List ℕ} (signs : SignsAs g held s word) where
+  -- the call's verdict
+  abbrev v : Verdict
+  v = tableAnswer (output.Word (length held)) g
+
+  same : v ≡ checkAnswer g
+  same = room-enough g (length held) enough
+
+  -- the answer, by that verdict
+  answered : s ≡ cond (accepts v) (Word (start (mapOf g)) (symmetries (mapOf g))) (Refused (v .number) (v .place))
+  answered = signs .answer ∙ signed-by g (length held)
+
+  pub made-refused : (k p : ℕ) (filed : List ℕ) → s ≡ Refused k p → Made die g (judged.Refused k p) filed
+  unfolding judgedOf
+  made-refused k p filed is = at (tested (accepts v))
+    where
+      at : Tested (accepts v) → Made die g (judged.Refused k p) filed
+      at (passes e) =
+          let other : s ≡ Word (start (mapOf g)) (symmetries (mapOf g)) = answered ∙ simp e in
+          let z : _≡_ {A = ℕ} 0 1 = cc in
+          absurd (omega arith)
+      at (fails e) =
+          let here : s ≡ Refused (v .number) (v .place) = answered ∙ simp e in
+          let number : k ≡ v .number = cc in
+          let place : p ≡ v .place = cc in
+          record { answer = rw (number, place, ← same) (simp e); written = λ yes. absurd (true-not-false (ap accepts same ∙ yes) e) }
+
+  module _ (a b : ℕ) (is : s ≡ Word a b) where
+    accepting : accepts v ≡ true
+    accepting = at (tested (accepts v))
+      where
+        at : Tested (accepts v) → accepts v ≡ true
+        at (passes e) = e
+        at (fails e) =
+            let other : s ≡ Refused (v .number) (v .place) = answered ∙ simp e in
+            let z : _≡_ {A = ℕ} 0 1 = cc in
+            absurd (omega arith)
+
+    pub signed-bounds : InBounds (g .n) (g .m)
+    signed-bounds = signing-shaped g held accepting .bounds
+
+    word-long : length (signature (mapOf g)) ≡ g .n * g .m
+    unfolding mapOf
+    word-long = length-signature (signing-accepted g held accepting)
+
+    pub signed-long : length word ≡ length held
+    unfolding signatureOutput
+    signed-long = ap length (signs .written) ∙ simp accepting (over-long (signature (mapOf g)) held (rw word-long (signing-room g held accepting)))
+
+    -- the word stands in front
+    word-front : take (g .n * g .m) word ≡ signature (mapOf g)
+    unfolding signatureOutput
+    word-front = ap (take (g .n * g .m)) (signs .written) ∙ simp accepting (over-front (signature (mapOf g)) held (g .n * g .m) word-long)
+
+    pub made-passed : {filed : List ℕ} → filed ≡ recordBytes (record { die = die; layout = lent (g .n) (g .m) (take (g .n * g .m) word) }) → Made die g judged.Passed filed
+    unfolding judgedOf layoutOf
+    made-passed put =
+        record {
+          answer = rw (← same) (simp accepting);
+          written = λ yes. put ∙ ap (λ (w : List ℕ). recordBytes (record { die = die; layout = lent (g .n) (g .m) w })) word-front;
+        }

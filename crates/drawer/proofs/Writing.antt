@@ -14,7 +14,7 @@
 -- Assumes nothing.
 use Prim.Native.Nat.{ℕ, zero, suc, _+_, _-_, _*_, _/_, _%_, _≤_, _<_}
 use mathlib.Core.Path.{_≡_, refl, sym, ap, _∙_}
-use mathlib.Core.Bool.{true, false, cond}
+use mathlib.Core.Bool.{true, cond}
 use mathlib.Core.List.{List, [], _∷_, _++_, flatMap, append-nil, append-assoc}
 use native.Mathlib.Omega.{arith}
 use native.Mathlib.Nat.{sub-zero}
@@ -118,11 +118,12 @@ module _ {front : List ℕ} {at : ℕ} {d filed : List ℕ} (b : Begun front at 
         stands = is ∙ rw (before, behind) (sym (append-assoc front bytes (drop (at + k) d)));
       }
 
+  -- a number's bytes too
   pub begun-number : (size x : ℕ) {filed′ : List ℕ} → filed′ ≡ take at filed ++ (toBytes size x ++ drop (at + size) filed) →
       Begun (front ++ toBytes size x) (at + size) d filed′
   begun-number size x is = begun-put (toBytes size x) size (length-toBytes size x) is
 
-  -- so is a byte that is left as it was
+  -- and a byte that is left as it was
   pub begun-pass : at < length d → Begun (front ++ (getD d at 0 ∷ [])) (at + 1) d filed
   begun-pass inside =
       record {
@@ -228,21 +229,21 @@ signed-by g room = at (tested (accepts (tableAnswer (output.Word room) g)))
     at (fails e) = simp (e, e)
 
 -- the record of a die and a map, where the signature call has written its word to an output with room enough
-module _ (die : ℕ) (g : Given) (held : List ℕ) (enough : 1020 ≤ length held) {s : Signed} {word : List ℕ} (signs : SignsAs g held s word) where
+module _ (g : Given) (held : List ℕ) (enough : 1020 ≤ length held) {s : Signed} {word : List ℕ} (signs : SignsAs g held s word) where
   -- the call's verdict
   abbrev v : Verdict
   v = tableAnswer (output.Word (length held)) g
 
-  same : v ≡ checkAnswer g
-  same = room-enough g (length held) enough
+  same-verdict : v ≡ checkAnswer g
+  same-verdict = room-enough g (length held) enough
 
   -- the answer, by that verdict
   answered : s ≡ cond (accepts v) (Word (start (mapOf g)) (symmetries (mapOf g))) (Refused (v .number) (v .place))
   answered = signs .answer ∙ signed-by g (length held)
 
-  pub made-refused : (k p : ℕ) (filed : List ℕ) → s ≡ Refused k p → Made die g (judged.Refused k p) filed
+  pub made-refused : (die k p : ℕ) (filed : List ℕ) → s ≡ Refused k p → Made die g (judged.Refused k p) filed
   unfolding judgedOf
-  made-refused k p filed is = at (tested (accepts v))
+  made-refused die k p filed is = at (tested (accepts v))
     where
       at : Tested (accepts v) → Made die g (judged.Refused k p) filed
       at (passes e) =
@@ -253,7 +254,7 @@ module _ (die : ℕ) (g : Given) (held : List ℕ) (enough : 1020 ≤ length hel
           let here : s ≡ Refused (v .number) (v .place) = answered ∙ simp e in
           let number : k ≡ v .number = cc in
           let place : p ≡ v .place = cc in
-          record { answer = rw (number, place, ← same) (simp e); written = λ yes. absurd (true-not-false (ap accepts same ∙ yes) e) }
+          record { answer = rw (number, place, ← same-verdict) (simp e); written = λ yes. absurd (true-not-false (ap accepts same-verdict ∙ yes) e) }
 
   module _ (a b : ℕ) (is : s ≡ Word a b) where
     accepting : accepts v ≡ true
@@ -269,23 +270,23 @@ module _ (die : ℕ) (g : Given) (held : List ℕ) (enough : 1020 ≤ length hel
     pub signed-bounds : InBounds (g .n) (g .m)
     signed-bounds = signing-shaped g held accepting .bounds
 
-    word-long : length (signature (mapOf g)) ≡ g .n * g .m
+    signature-long : length (signature (mapOf g)) ≡ g .n * g .m
     unfolding mapOf
-    word-long = length-signature (signing-accepted g held accepting)
+    signature-long = length-signature (signing-accepted g held accepting)
 
     pub signed-long : length word ≡ length held
     unfolding signatureOutput
-    signed-long = ap length (signs .written) ∙ simp accepting (over-long (signature (mapOf g)) held (rw word-long (signing-room g held accepting)))
+    signed-long = ap length (signs .written) ∙ simp accepting (over-long (signature (mapOf g)) held (rw signature-long (signing-room g held accepting)))
 
-    -- the word stands in front
-    word-front : take (g .n * g .m) word ≡ signature (mapOf g)
+    -- the signature stands in front
+    signature-front : take (g .n * g .m) word ≡ signature (mapOf g)
     unfolding signatureOutput
-    word-front = ap (take (g .n * g .m)) (signs .written) ∙ simp accepting (over-front (signature (mapOf g)) held (g .n * g .m) word-long)
+    signature-front = ap (take (g .n * g .m)) (signs .written) ∙ simp accepting (over-front (signature (mapOf g)) held (g .n * g .m) signature-long)
 
-    pub made-passed : {filed : List ℕ} → filed ≡ recordBytes (record { die = die; layout = lent (g .n) (g .m) (take (g .n * g .m) word) }) → Made die g judged.Passed filed
+    pub made-passed : (die : ℕ) {filed : List ℕ} → filed ≡ recordBytes (record { die = die; layout = lent (g .n) (g .m) (take (g .n * g .m) word) }) → Made die g judged.Passed filed
     unfolding judgedOf layoutOf
-    made-passed put =
+    made-passed die put =
         record {
-          answer = rw (← same) (simp accepting);
-          written = λ yes. put ∙ ap (λ (w : List ℕ). recordBytes (record { die = die; layout = lent (g .n) (g .m) w })) word-front;
+          answer = rw (← same-verdict) (simp accepting);
+          written = λ yes. put ∙ ap (λ (w : List ℕ). recordBytes (record { die = die; layout = lent (g .n) (g .m) w })) signature-front;
         }

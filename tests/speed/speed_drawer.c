@@ -136,7 +136,12 @@ static uint64_t folded_drawer(uint64_t sum) {
 // How many records the file has; 0 where there is none.
 static size_t read_drawer(const char *file_name) {
   FILE *file = fopen(file_name, "rb");
-  return file == NULL ? 0 : fread(bytes, 1, sizeof bytes, file) / DRAWER_RECORD_BYTES;
+  if (file == NULL) {
+    return 0;
+  }
+  size_t length = fread(bytes, 1, sizeof bytes, file);
+  fclose(file);
+  return length / DRAWER_RECORD_BYTES;
 }
 
 static int complain(void) {

@@ -10,3 +10,4 @@ pub mod Filing
 pub mod Plain
 pub mod Theorems
 pub mod Inside
+pub mod Answers

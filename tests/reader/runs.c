@@ -281,7 +281,8 @@ static uint32_t any_die(const struct run *run) {
   if (run->count > 0 && chance_one_in(&chance, 6)) {
     return run->list[any_record(run) - 1].die;
   }
-  return (uint32_t)chance_next(&chance) >> 8 * chance_below(&chance, 4);
+  uint64_t bytes_less = chance_below(&chance, 4);
+  return (uint32_t)chance_next(&chance) >> 8 * bytes_less;
 }
 
 // Counts that the lent bytes have no room for, those among them whose bytes wrap around.

@@ -10,4 +10,7 @@ pub mod Filing
 pub mod Plain
 pub mod Theorems
 pub mod Inside
+pub mod Checking
+pub mod Writing
+pub mod Calls
 pub mod Answers

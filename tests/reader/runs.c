@@ -450,16 +450,15 @@ static void run_to_full(void) {
     add_to_list(run, die++, &layout);
   }
   memcpy(run->drawer, run->right, BY_HAND * RECORD);
-  for (int time = 0; time < 5; time++) {
+  for (int time = 0; time < 4; time++) {
     struct map map = small_unfiled_map(run);
     lent.count = run->count;
-    ask_search(run, &map, lent);
     ask_filing(run, die++, &map, lent);
     lent.count = run->count;
     ask_search(run, &map, lent);
   }
   expect(run->count == MOST_RECORDS, map_lent(&run->list[0].layout), "the drawer is not full");
-  for (int time = 0; time < 8; time++) {
+  for (int time = 0; time < 4; time++) {
     ask_any(run, 40);
   }
   ask_spoiled(run, 40);

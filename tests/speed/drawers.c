@@ -33,7 +33,7 @@ static struct map_kind draw_sized(const char *name, size_t m, uint64_t drawn, ui
   return kind;
 }
 
-// Random planar maps, n = 2, of 3 to 510 darts: 256 in the mean.
+// Random planar maps, n = 2, of 3 to 510 darts: 258 in the mean.
 static struct map_kind draw_random(uint64_t drawn, uint16_t *table) {
   return draw_sized("random-510", 3 + spread(drawn, 508, 315), drawn, table);
 }

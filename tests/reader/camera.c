@@ -1,12 +1,12 @@
 // An example of the camera's program. It asks for the signature of one die in two numberings, and
-// for that of a table in which a sewing was missed.
+// for that of a table in which a sewing was missed. Then it files the die in a drawer and finds it.
 #include <stdbool.h>
 #include <stdio.h>
 #include <string.h>
 
 #include "../../include/duftheim.h"
 
-enum { SEWINGS = 2, DARTS = 7, NUMBERS = SEWINGS * DARTS };
+enum { SEWINGS = 2, DARTS = 7, NUMBERS = SEWINGS * DARTS, DIE_NUMBER = 501, RECORDS = 2 };
 
 // One row for each dart: the dart it is 1-sewn to, and the dart it is 2-sewn to. 0 is "nothing".
 static const uint16_t die[NUMBERS] = {
@@ -30,6 +30,12 @@ static const char *const meaning[] = {
     [7] = "what it is sewn to is not sewn back to it",
     [8] = "two of its sewings do not go together",
     [9] = "it cannot be reached from dart 1",
+    [13] = "the drawer is shorter than its records",
+    [14] = "the record is bad",
+    [15] = "the layout is not filed",
+    [16] = "the die number is 0 or filed already",
+    [17] = "the layout is filed already",
+    [18] = "the drawer is full",
 };
 
 static void print_rows(const char *name, const uint16_t *numbers) {
@@ -69,6 +75,51 @@ static void renumber(const uint16_t *table, uint16_t *renumbered) {
   }
 }
 
+// Files the die, prints the answer, and hands the new count back: the old one where it is refused.
+static size_t show_filing(const char *title, uint32_t number, size_t count, uint8_t *drawer) {
+  struct duftheim_filed answer = duftheim_file(number, SEWINGS, DARTS, die, NUMBERS, count, drawer,
+                                               RECORDS * DUFTHEIM_RECORD_SIZE);
+  printf("%s\n", title);
+  if (answer.number != 0) {
+    printf("  refused     number %u, record %zu: %s\n", (unsigned)answer.number, answer.place,
+           meaning[answer.number]);
+    return count;
+  }
+  printf("  filed       %zu in the drawer\n", answer.count);
+  return answer.count;
+}
+
+// Looks for a table's layout, prints the answer, and says whether it was found.
+static bool show_search(const char *title, const uint16_t *table, size_t count,
+                        const uint8_t *drawer) {
+  struct duftheim_found answer = duftheim_search(SEWINGS, DARTS, table, NUMBERS, count, drawer,
+                                                 RECORDS * DUFTHEIM_RECORD_SIZE);
+  printf("%s\n", title);
+  const uint8_t *record = duftheim_record_bytes(drawer, answer.record);
+  if (record == NULL) {
+    printf("  refused     number %u: %s\n", (unsigned)answer.number, meaning[answer.number]);
+    return false;
+  }
+  printf("  found       die %u in record %zu, whose n is %d and m %d\n", (unsigned)answer.die,
+         answer.record, record[4], record[6] + 256 * record[7]);
+  return answer.die == DIE_NUMBER;
+}
+
+// The drawer: the die is filed once, and found under any numbering.
+static bool show_drawer(const uint16_t *renumbered) {
+  static uint8_t drawer[RECORDS * DUFTHEIM_RECORD_SIZE];
+  size_t count = show_filing("The die, filed as 501", DIE_NUMBER, 0, drawer);
+  count = show_filing("The die once more, as 502", DIE_NUMBER + 1, count, drawer);
+  bool found = show_search("The die numbered otherwise, looked for", renumbered, count, drawer);
+
+  // A layout of its own: dart 7 is 1-sewn to nothing.
+  uint16_t open[NUMBERS];
+  memcpy(open, die, sizeof open);
+  open[(7 - 1) * SEWINGS] = 0;
+  bool open_found = show_search("A die that is open at dart 7, looked for", open, count, drawer);
+  return count == 1 && found && !open_found;
+}
+
 int main(void) {
   uint16_t signature[NUMBERS];
   bool accepted =
@@ -88,5 +139,6 @@ int main(void) {
   memcpy(missed, die, sizeof missed);
   missed[(5 - 1) * SEWINGS + 1] = 0;
   bool missed_accepted = show("The die with a sewing missed", missed, signature);
-  return same && !missed_accepted ? 0 : 1;
+  bool drawer_right = show_drawer(renumbered);
+  return same && !missed_accepted && drawer_right ? 0 : 1;
 }

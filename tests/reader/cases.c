@@ -66,6 +66,10 @@ uint64_t cases_read(void) {
   return cases;
 }
 
+void count_case(void) {
+  cases++;
+}
+
 static uint64_t read_number(uint64_t most) {
   uint64_t number;
   if (scanf("%" SCNu64, &number) != 1 || number > most) {

@@ -1,5 +1,5 @@
-// What turns.c and pairs.c share: reading cases in the form of CASES.md, counting what holds,
-// buffers that show a change, and other numberings.
+// What turns.c, pairs.c and runs.c share: reading cases in the form of CASES.md, counting what
+// holds, buffers that show a change, and other numberings.
 #ifndef CASES_H
 #define CASES_H
 
@@ -25,6 +25,9 @@ int finish(void);
 // Goes to the next case of that word; false after the last one.
 bool next_case(const char *word);
 uint64_t cases_read(void);
+
+// For a case that is made here and not read.
+void count_case(void);
 
 struct list {
   uint16_t *numbers;

@@ -234,6 +234,8 @@ static bool print_kind(const char *kind, uint64_t seed, uint64_t count) {
     print_judge_cases(&chance, count, MOST_ENTRIES);
   } else if (strcmp(kind, "drawer") == 0) {
     print_drawer_cases(&chance, count);
+  } else if (strcmp(kind, "each-drawer") == 0) {
+    print_each_drawer(&chance);
   } else if (strcmp(kind, "large") == 0) {
     print_large(&chance, &both);
   } else if (strcmp(kind, "tiny") == 0) {
@@ -282,8 +284,8 @@ int main(int argc, char **argv) {
   if (!understood || !print_kind(argv[2], seed, count)) {
     fprintf(stderr,
             "usage: generate SEED KIND [COUNT], COUNT up to 1000000, KIND one of\n"
-            "check sign match judge drawer large large-pairs tiny tiny-pairs records bench\n"
-            "bench-sign bench-match\n");
+            "check sign match judge drawer each-drawer large large-pairs tiny tiny-pairs records\n"
+            "bench bench-sign bench-match\n");
     return 2;
   }
   return fflush(stdout) == 0 && !ferror(stdout) ? 0 : 1;

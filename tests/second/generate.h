@@ -29,6 +29,10 @@ void print_match_cases(struct chance *chance, uint64_t count, uint64_t most_entr
 void print_judge_cases(struct chance *chance, uint64_t count, uint64_t most_entries);
 void print_drawer_cases(struct chance *chance, uint64_t count);
 
+// All four calls on drawers of each kind: every size, every fault in the first, a middle and the
+// last record, every wrong count, and lent bytes that are too short.
+void print_each_drawer(struct chance *chance);
+
 // Matches and lists of the largest sizes; all of the smallest maps against each other.
 void print_large_pairs(struct chance *chance);
 void print_tiny_pairs(struct chance *chance);

@@ -34,10 +34,8 @@ static void print_add(uint32_t die, const struct map *map, const struct drawer *
   print_lent(drawer);
 }
 
-// One call on the drawer, by turns.
-static void print_call(uint64_t turn, uint32_t die, const struct map *map,
-                       const struct drawer *drawer) {
-  switch (turn % 4) {
+void print_call(uint64_t turn, uint32_t die, const struct map *map, const struct drawer *drawer) {
+  switch (turn % DRAWER_CALLS) {
   case 0:
     print_drawer(drawer);
     break;
@@ -52,6 +50,12 @@ static void print_call(uint64_t turn, uint32_t die, const struct map *map,
   }
 }
 
+void print_calls(uint32_t die, const struct map *map, const struct drawer *drawer) {
+  for (uint64_t turn = 0; turn < DRAWER_CALLS; turn++) {
+    print_call(turn, die, map, drawer);
+  }
+}
+
 static size_t any_spare(struct chance *chance) {
   static const size_t spares[] = {
       0, 1, RECORD_BYTES - 1, RECORD_BYTES, RECORD_BYTES + 5, 2 * RECORD_BYTES};
@@ -63,12 +67,6 @@ static struct drawer any_good_drawer(struct chance *chance, uint64_t least) {
   uint64_t count = least + chance_below(chance, most - least + 1);
   size_t spare = any_spare(chance);
   return good_drawer(chance, count, spare, chance_one_in(chance, 2));
-}
-
-// The layout of a record under other dart numbers.
-static struct map filed_map(struct chance *chance, const struct drawer *drawer, uint64_t record) {
-  struct map map = record_map(drawer_record(drawer, record));
-  return map_shuffled(chance, &map);
 }
 
 static void print_good(struct chance *chance, uint64_t cases) {
@@ -167,10 +165,8 @@ static void print_spoiled(struct chance *chance, uint64_t cases) {
   }
 }
 
-// Counts that narrow numbers would take for the true one are among these, and counts whose bytes
-// would wrap to nothing or to one record.
-static uint64_t bad_count(uint64_t turn, const struct drawer *drawer) {
-  const uint64_t bad[] = {
+uint64_t bad_count(uint64_t turn, const struct drawer *drawer) {
+  const uint64_t bad[BAD_COUNTS] = {
       drawer->length / RECORD_BYTES + 1,
       MOST_RECORDS + 1,
       (uint64_t)1 << 53,
@@ -183,12 +179,12 @@ static uint64_t bad_count(uint64_t turn, const struct drawer *drawer) {
       UINT64_MAX / RECORD_BYTES,
       ((uint64_t)1 << 21) + drawer->count,
   };
-  return bad[turn % (sizeof bad / sizeof bad[0])];
+  return bad[turn % BAD_COUNTS];
 }
 
 static void print_bad_counts(struct chance *chance, uint64_t cases) {
   printf("# counts that are above 1,024 or want more bytes than are lent\n");
-  uint64_t which = chance_below(chance, 11);
+  uint64_t which = chance_below(chance, BAD_COUNTS);
   for (uint64_t k = 0; k < cases; which++) {
     struct drawer drawer = any_good_drawer(chance, 1);
     struct map map = filed_map(chance, &drawer, 1);

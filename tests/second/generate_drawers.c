@@ -154,6 +154,11 @@ struct drawer packed_drawer(struct chance *chance, uint64_t count, size_t spare)
   return drawer;
 }
 
+struct map filed_map(struct chance *chance, const struct drawer *drawer, uint64_t record) {
+  struct map map = record_map(drawer_record(drawer, record));
+  return map_shuffled(chance, &map);
+}
+
 struct map unfiled_map(struct chance *chance, const struct drawer *drawer) {
   for (;;) {
     struct map map = any_filed_map(chance);

@@ -31,6 +31,9 @@ struct drawer good_drawer(struct chance *chance, uint64_t count, size_t spare, b
 struct drawer packed_drawer(struct chance *chance, uint64_t count, size_t spare);
 void drawer_free(struct drawer *drawer);
 
+// The layout of a record under other dart numbers.
+struct map filed_map(struct chance *chance, const struct drawer *drawer, uint64_t record);
+
 // A map whose layout is not filed in the drawer, and a die number that is not.
 struct map unfiled_map(struct chance *chance, const struct drawer *drawer);
 uint32_t unfiled_die(struct chance *chance, const struct drawer *drawer);
@@ -58,5 +61,17 @@ const char *spoil_name(enum spoil spoil);
 
 // Makes the record bad; false where this spoil cannot do it, and then the drawer is as it was.
 bool spoil_record(struct chance *chance, struct drawer *drawer, uint64_t record, enum spoil spoil);
+
+// Counts that are above 1,024 or want more bytes than a drawer of a few records has: those that
+// narrow numbers would take for the true one are among them, and those whose bytes would wrap to
+// nothing or to one record.
+enum { BAD_COUNTS = 11 };
+uint64_t bad_count(uint64_t turn, const struct drawer *drawer);
+
+// Prints one call on the drawer, by turns: the check, search, the record handed back, filing; or
+// all of them.
+enum { DRAWER_CALLS = 4 };
+void print_call(uint64_t turn, uint32_t die, const struct map *map, const struct drawer *drawer);
+void print_calls(uint32_t die, const struct map *map, const struct drawer *drawer);
 
 #endif

@@ -1,43 +1,17 @@
-// Reads cases in the form of CASES.md and compares the plain signature and the plain match with the
-// second program's, answer and output, for each case `sign` and `match`; then for each map and each
-// pair that is measured.
+// Compares the plain signature, match and drawer's calls with the second program's, answer and
+// output: agree [DRAWER..]. First for the cases in the form of CASES.md that it reads, then for
+// each map, each pair and each drawer, by its file, that is measured.
 #include <inttypes.h>
-#include <stdbool.h>
 #include <stdio.h>
 #include <stdlib.h>
 #include <string.h>
 
-#include "../second/second.h"
+#include "agree.h"
 #include "maps.h"
 #include "pairs.h"
 #include "plain.h"
 
-static _Noreturn void stop(const char *why) {
-  fprintf(stderr, "agree: %s\n", why);
-  exit(2);
-}
-
-static uint64_t read_number(void) {
-  uint64_t number;
-  if (scanf("%" SCNu64, &number) != 1) {
-    stop("a number is missing");
-  }
-  return number;
-}
-
-struct list {
-  uint16_t *numbers;
-  size_t length;
-};
-
-// Exactly as much room as there are numbers, so that a watched build sees a look past the end.
-static struct list new_list(size_t length) {
-  struct list list = {malloc(length * sizeof list.numbers[0]), length};
-  if (list.numbers == NULL && length != 0) {
-    stop("no memory for a list");
-  }
-  return list;
-}
+// ---- Comparing ----
 
 static struct list copied(struct list list) {
   struct list copy = new_list(list.length);
@@ -45,34 +19,6 @@ static struct list copied(struct list list) {
     copy.numbers[at] = list.numbers[at];
   }
   return copy;
-}
-
-// How often the number just read stands: V*K is V, K times.
-static uint64_t read_times(void) {
-  int next = getchar();
-  if (next == '*') {
-    return read_number();
-  }
-  ungetc(next, stdin);
-  return 1;
-}
-
-static struct list read_list(void) {
-  struct list list = new_list(read_number());
-  for (size_t at = 0; at < list.length;) {
-    uint16_t number = (uint16_t)read_number();
-    for (uint64_t times = read_times(); times > 0 && at < list.length; times--) {
-      list.numbers[at++] = number;
-    }
-  }
-  return list;
-}
-
-static void skip_line(void) {
-  int next = getchar();
-  while (next != '\n' && next != EOF) {
-    next = getchar();
-  }
 }
 
 static bool same_lists(struct list one, struct list other) {
@@ -83,8 +29,6 @@ static bool same_lists(struct list one, struct list other) {
   }
   return true;
 }
-
-// ---- Comparing ----
 
 // `out` is the lent output before the call, here and below.
 static bool agree_on_signature(struct second_map map, struct list out) {
@@ -124,17 +68,6 @@ static void require(bool same, const char *what, uint64_t which) {
 
 // ---- Cases ----
 
-static struct second_map read_map(void) {
-  uint64_t n = read_number();
-  uint64_t m = read_number();
-  struct list table = read_list();
-  return (struct second_map){n, m, table.numbers, table.length};
-}
-
-static void drop_map(struct second_map map) {
-  free((void *)map.table);
-}
-
 static bool agree_on_sign_case(void) {
   struct second_map map = read_map();
   struct list out = read_list();
@@ -156,24 +89,35 @@ static bool agree_on_match_case(void) {
 }
 
 struct compared {
-  uint64_t signs;
-  uint64_t matches;
+  const char *word;
+  const char *plural;
+  // Reads the rest of the case.
+  bool (*agree)(void);
+  uint64_t cases;
 };
 
-static struct compared compare_cases(void) {
+static struct compared compared[] = {
+    {"sign", "signatures", agree_on_sign_case, 0},
+    {"match", "matches", agree_on_match_case, 0},
+    {"drawer", "drawer checks", agree_on_check_case, 0},
+    {"find", "searches", agree_on_search_case, 0},
+    {"add", "filings", agree_on_filing_case, 0},
+};
+
+enum { COMPARED_COUNT = sizeof compared / sizeof compared[0] };
+
+// Cases of other calls are passed over.
+static void compare_cases(void) {
   char word[16];
-  struct compared cases = {0, 0};
   while (scanf("%15s", word) == 1) {
-    if (strcmp(word, "sign") == 0) {
-      cases.signs++;
-      require(agree_on_sign_case(), "case sign", cases.signs);
-    } else if (strcmp(word, "match") == 0) {
-      cases.matches++;
-      require(agree_on_match_case(), "case match", cases.matches);
+    for (size_t at = 0; at < COMPARED_COUNT; at++) {
+      if (strcmp(word, compared[at].word) == 0) {
+        compared[at].cases++;
+        require(compared[at].agree(), word, compared[at].cases);
+      }
     }
     skip_line();
   }
-  return cases;
 }
 
 // ---- What is measured ----
@@ -243,13 +187,26 @@ static uint64_t compare_pairs(void) {
   return pairs;
 }
 
-int main(void) {
-  struct compared cases = compare_cases();
+static void compare_drawers(int count, char **file_names) {
+  for (int at = 0; at < count; at++) {
+    require(agree_on_drawer(file_names[at]), file_names[at], 0);
+  }
+}
+
+int main(int argc, char **argv) {
+  compare_cases();
   uint64_t maps = compare_maps();
   uint64_t pairs = compare_pairs();
-  printf("plain C and the second program agree on %" PRIu64 " signatures and %" PRIu64
-         " matches of cases, %" PRIu64 " maps and %" PRIu64 " pairs\n",
-         cases.signs, cases.matches, maps, pairs);
-  // Input that held no case of a call has shown nothing about it.
-  return cases.signs == 0 || cases.matches == 0 ? 1 : 0;
+  compare_drawers(argc - 1, argv + 1);
+  printf("plain C and the second program agree on");
+  for (size_t at = 0; at < COMPARED_COUNT; at++) {
+    // Input that held no case of a call has shown nothing about it.
+    if (compared[at].cases == 0) {
+      printf(" no %s\n", compared[at].plural);
+      return 1;
+    }
+    printf(" %" PRIu64 " %s,", compared[at].cases, compared[at].plural);
+  }
+  printf(" %" PRIu64 " maps, %" PRIu64 " pairs and %d drawers\n", maps, pairs, argc - 1);
+  return 0;
 }

@@ -5,6 +5,7 @@
 #include <stdlib.h>
 #include <string.h>
 
+#include "checksum.h"
 #include "maps.h"
 #include "pairs.h"
 #include "plain.h"
@@ -20,10 +21,6 @@ static uint16_t second_tables[MOST_MAPS_OF_A_KIND][MOST_NUMBERS_OF_A_MAP];
 static uint16_t out[MOST_NUMBERS_OF_A_MAP];
 
 // ---- The calls ----
-
-static uint64_t folded(uint64_t sum, uint64_t number) {
-  return (sum ^ number) * 0x100000001b3u;
-}
 
 // The answer's numbers alone are folded in at each call, some ten instructions beside it.
 static uint64_t folded_verdict(uint64_t sum, uint64_t number, uint64_t place) {
@@ -149,17 +146,6 @@ static uint64_t call_all_outputs(const struct map_kind *kind, size_t count, call
 }
 
 // ---- The program ----
-
-// Sixteen digits by hand, since the instructions of printf depend on the number printed.
-static void print_checksum(uint64_t sum) {
-  char line[17];
-  for (size_t at = 0; at < 16; at++) {
-    line[at] = "0123456789abcdef"[sum >> 60];
-    sum <<= 4;
-  }
-  line[16] = '\n';
-  fwrite(line, 1, sizeof line, stdout);
-}
 
 static void list_kinds(void) {
   static const char *const parts[] = {

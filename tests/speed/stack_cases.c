@@ -72,6 +72,29 @@ KEPT_WHOLE uint64_t through_a_table(uint64_t number, uint16_t *numbers) {
   }
 }
 
+// An answer too large for registers, in memory that the caller lends, and a record in the frame, as
+// in the drawer's calls.
+struct answer {
+  uint64_t number;
+  uint64_t place;
+  uint64_t die;
+  uint64_t record;
+};
+
+KEPT_WHOLE struct answer answers_in_memory(uint64_t a, uint64_t b, uint64_t c, uint64_t d,
+                                           uint64_t e, uint64_t f, uint64_t g, uint64_t h) {
+  uint16_t record[1024];
+  fills(record, 1024);
+  return (struct answer){a + b + record[0], c + d + record[1], e + f + record[2],
+                         g + h + record[3]};
+}
+
+// Of nine numbers, the place of the answer among them, three do not fit into registers.
+KEPT_WHOLE uint64_t lends_memory(uint64_t number) {
+  struct answer answer = answers_in_memory(number, 1, 2, 3, 4, 5, number + 6, number + 7);
+  return answer.number + answer.record;
+}
+
 // Two calls of a C boundary, which are read where none is named.
 
 KEPT_WHOLE uint64_t duftheim_first(uint64_t number) {

@@ -13,3 +13,4 @@ pub mod Inside
 pub mod Checking
 pub mod Writing
 pub mod Calls
+pub mod Answers

@@ -2,7 +2,7 @@
 --     accepted-within        the records of a drawer that the check accepts lie inside its bytes
 --     made-layout, made-long, made-comparable
 --                            what a record made of a die and an accepted map says
---     search-checked, search-judged, search-missed, search-named
+--     search-checked, search-judged, search-missed, search-there, search-named
 --                            what search answers
 --     own-named, own-none    and which bytes it hands back
 --     next-drawer, next-no-die, next-die, next-layout, next-over, next-room
@@ -11,35 +11,39 @@
 --                            what filing answers and leaves in the drawer
 -- Assumes nothing.
 use Prim.Native.Nat.{ℕ, _+_, _*_, _≤_, _<_}
-use mathlib.Core.Path.{_≡_, sym, ap, _∙_}
-use mathlib.Core.Bool.{true, false, _&&_}
-use mathlib.Core.List.{List, [], _∷_}
+use mathlib.Core.Path.{_≡_, refl, sym, ap, _∙_}
+use mathlib.Core.Bool.{Bool, true, false, _&&_}
+use mathlib.Core.List.{List, [], _∷_, _++_, append-assoc}
 use mathlib.Core.Logic.{_⊎_}
 use native.Mathlib.Omega.{arith}
 use borrow.Author.Tests.{ne-eqb, le-leb, lt-leb}
 use lib.Dec.{leb}
-use lib.ListN.{length}
+use lib.ListN.{length, take, drop}
 use Rattle.maps.specs.Given.{Given, mapOf}
 use Rattle.maps.specs.Verdict.{Verdict, accepted, refused, accepts, unless, atLeast, inOrder}
 use Rattle.maps.specs.Answer.{judgedOf}
+use Rattle.maps.specs.declared.Judged.the-variants as judged
 use Rattle.maps.specs.declared.Judged.the-variants.{Refused}
-use Rattle.maps.proofs.Answer.{refused-accepts, refused-is, refused-low}
+use Rattle.maps.proofs.Least.{Tested, passes, fails, tested}
+use Rattle.maps.proofs.Answer.{passed-accepts, refused-accepts, refused-is, refused-low}
 use Rattle.maps.proofs.Verdict.{refused-refuses, inOrder-passed, inOrder-refused, inOrder-first, unless-passed, unless-refused, atLeast-some}
 use Rattle.labels.specs.Judging.{checkAnswer}
 use Rattle.labels.specs.Theorems.{CheckAccepts}
 use Rattle.labels.proofs.Judging.{check-whole}
 use Rattle.labels.proofs.Theorems.{check-accepts}
 use Rattle.drawer.specs.Record.{Filed, recordSize, recordBytes, filedIn}
-use Rattle.drawer.specs.Drawer.{Drawer, drawer, mostRecords, entryAt, drawerAnswer, layoutOf, recordOf, recordOfDie, judgeSearch, searchAnswer, ownBytes, judgeFiling, filingAnswer, filedBytes}
+use Rattle.drawer.specs.Drawer.{Drawer, drawer, mostRecords, recordAt, entryAt, drawerAnswer, layoutOf, recordOf, recordOfDie, judgeSearch, searchAnswer, ownBytes, judgeFiling, filingAnswer, filedBytes}
+use Rattle.drawer.specs.Theorems.{found}
 use Rattle.drawer.specs.Answers.{searchOf, filingOf, FilesAs}
-use Rattle.drawer.specs.Inside.{Within, Comparable, nextAnswer}
+use Rattle.drawer.specs.Inside.{Within, HasRecord, Comparable, nextAnswer}
 use Rattle.drawer.specs.declared.search.Search.the-variants as search
 use Rattle.drawer.specs.declared.file.Filing.the-variants as filing
 use Rattle.drawer.proofs.Record.{Fits, length-recordBytes, filedIn-recordBytes}
 use Rattle.drawer.proofs.Reading.{filing-fits}
-use Rattle.drawer.proofs.Lines.{bounds-fail}
-use Rattle.drawer.proofs.Drawer.{check-good, drawer-whole, search-found, search-none}
-use Rattle.drawer.proofs.Checking.{passed-on, passed-last, atLeast-none}
+use Rattle.drawer.proofs.Lines.{bounds-fail, recordOf-found}
+use Rattle.drawer.proofs.Drawer.{check-good, drawer-whole, search-found, search-none, search-passed, own-refused}
+use Rattle.drawer.proofs.Filing.{filing-passed}
+use Rattle.drawer.proofs.Checking.{within-fewer, passed-on, passed-last, atLeast-none}
 
 pub accepted-within : (count : ℕ) (bytes : List ℕ) → accepts (drawerAnswer (drawer count bytes)) ≡ true → Within count bytes
 unfolding mostRecords recordSize
@@ -141,8 +145,88 @@ module _ (g : Given) (D : Drawer) where
       unfolding searchOf
       search-missed none = ap searchOf (sym (search-none g D (check-whole g takes) (drawer-whole D fine) (sym none)))
 
+      -- the record that is found lies inside the bytes
+      pub search-there : (k : ℕ) → k ≡ recordOf (layoutOf g) D → (k ≡ 0 → ⊥) → HasRecord k (D .bytes)
+      search-there k is some-record =
+          let f = recordOf-found D (layoutOf g) (omega (arith, is)) .0 in
+          record { low = omega arith; within = within-fewer k (accepted-within (D .count) (D .bytes) fine) (omega (arith, is, f .1)) }
+
       pub search-named : (k x : ℕ) → k ≡ recordOf (layoutOf g) D → (k ≡ 0 → ⊥) → x ≡ entryAt (D .bytes) k .die → search.Found x k ≡ searchOf (searchAnswer g D)
       unfolding searchOf
       search-named k x is some-record named =
-          let at : recordOf (layoutOf g) D ≡ k = sym is in
-          ap searchOf (sym (search-found g D (check-whole g takes) (drawer-whole D fine) (omega arith) ∙ ?))
+          let answer = search-found g D (check-whole g takes) (drawer-whole D fine) (omega arith) in
+          ap searchOf (sym (answer ∙ ap (λ (j : ℕ). found j (entryAt (D .bytes) j .die)) (sym is) ∙ ap (found k) (sym named)))
+
+-- the bytes handed back, by what search answers
+module _ (g : Given) (D : Drawer) where
+  abbrev taken : Bool
+  taken = accepts (judgeSearch g D)
+
+  own-found : taken ≡ true → (x k : ℕ) → search.Found x k ≡ searchOf (searchAnswer g D) → HasRecord k (D .bytes) × (recordAt (D .bytes) k ≡ ownBytes g D)
+  unfolding searchOf searchAnswer ownBytes mostRecords recordSize
+  own-found e x k is =
+      let h = search-passed g D e in
+      let there = recordOf-found D (layoutOf g) (h .1) .0 in
+      let named : search.Found x k ≡ search.Found (entryAt (D .bytes) (recordOf (layoutOf g) D) .die) (recordOf (layoutOf g) D) = simp e at is in
+      let at : k ≡ recordOf (layoutOf g) D = cc in
+      let all : Within (D .count) (D .bytes) = record { few = h .0 .few; inside = h .0 .within } in
+      (record { low = omega (arith, there .0); within = within-fewer k all (omega (arith, there .1)) }, simp e (ap (recordAt (D .bytes)) at))
+
+  pub own-named : (x k : ℕ) → search.Found x k ≡ searchOf (searchAnswer g D) → HasRecord k (D .bytes) × (recordAt (D .bytes) k ≡ ownBytes g D)
+  unfolding searchOf searchAnswer accepts
+  own-named x k is = at (tested taken)
+    where
+      at : Tested taken → HasRecord k (D .bytes) × (recordAt (D .bytes) k ≡ ownBytes g D)
+      at (passes e) = own-found e x k is
+      at (fails e) =
+          let other : search.Found x k ≡ search.Refused (judgeSearch g D .number) (judgeSearch g D .place) = simp (e, e) at is in
+          let z : _≡_ {A = ℕ} 0 1 = cc in
+          absurd (omega arith)
+
+  pub own-none : (k p : ℕ) → search.Refused k p ≡ searchOf (searchAnswer g D) → [] ≡ ownBytes g D
+  unfolding searchOf searchAnswer
+  own-none k p is = at (tested taken)
+    where
+      at : Tested taken → [] ≡ ownBytes g D
+      at (fails e) = sym (own-refused g D e)
+      at (passes e) =
+          let other : search.Refused k p ≡ search.Found (entryAt (D .bytes) (recordOf (layoutOf g) D) .die) (recordOf (layoutOf g) D) = simp e at is in
+          let z : _≡_ {A = ℕ} 0 1 = cc in
+          absurd (omega arith)
+
+-- what filing answers and leaves, by what it has found
+module _ (die : ℕ) (g : Given) (D : Drawer) where
+  filing-back : (k p : ℕ) → 1 ≤ k → judgeFiling die g D ≡ refused k p → FilesAs die g D (filing.Refused k p) (D .bytes)
+  unfolding filingOf filingAnswer filedBytes refused
+  filing-back k p low is =
+      let refuses : accepts (refused k p) ≡ false = refused-refuses k p low in
+      record { answer = rw is (simp (refuses, ne-eqb k 0 (λ z. omega arith))); written = rw is (simp refuses) }
+
+  pub filing-checked : (k p : ℕ) → Refused k p ≡ judgedOf (checkAnswer g) → FilesAs die g D (filing.Refused k p) (D .bytes)
+  unfolding judgeFiling
+  filing-checked k p is = filing-back k p (refused-low _ k p is) (inOrder-refused _ _ (refused-accepts _ k p is) ∙ refused-is _ k p is)
+
+  module _ (takes : accepts (checkAnswer g) ≡ true) where
+    -- past the map's own numbers
+    judging-next : judgeFiling die g D ≡ nextAnswer die (layoutOf g) D
+    unfolding judgeFiling nextAnswer
+    judging-next = inOrder-passed _ _ takes
+
+    pub filing-judged : (k p : ℕ) → Refused k p ≡ judgedOf (nextAnswer die (layoutOf g) D) → FilesAs die g D (filing.Refused k p) (D .bytes)
+    filing-judged k p is = filing-back k p (refused-low _ k p is) (judging-next ∙ refused-is _ k p is)
+
+    module _ (passed : judged.Passed ≡ judgedOf (nextAnswer die (layoutOf g) D)) where
+      accepting : accepts (judgeFiling die g D) ≡ true
+      accepting = ap accepts judging-next ∙ passed-accepts _ passed
+
+      pub next-within : Within (D .count + 1) (D .bytes)
+      unfolding mostRecords recordSize
+      next-within = let h = filing-passed die g D accepting in record { few = h .few; inside = h .room }
+
+      pub filing-done : (after : List ℕ) →
+          after ≡ take (D .count * 2048) (D .bytes) ++ (recordBytes (record { die = die; layout = layoutOf g }) ++ drop (D .count * 2048 + recordSize) (D .bytes))
+          → FilesAs die g D (filing.Filed (D .count + 1)) after
+      unfolding filingOf filingAnswer filedBytes recordSize
+      filing-done after is =
+          let next : D .count * 2048 + 2048 ≡ (D .count + 1) * 2048 = omega arith in
+          record { answer = simp accepting; written = simp accepting (is ∙ rw next (sym (append-assoc (take (D .count * 2048) (D .bytes)) _ _))) }

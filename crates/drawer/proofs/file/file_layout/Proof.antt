@@ -1,86 +1,128 @@
+-- `drawer::file::file_layout` meets its contract: the map, then what stands against its record, which is else copied behind the last.
+-- Assumes nothing.
+use Prim.Native.Nat.{ℕ, _+_, _*_, _≤_}
+use mathlib.Core.Path.{_≡_, refl, sym, ap, _∙_}
+use mathlib.Core.Bool.{true}
+use mathlib.Core.List.{List}
 use borrow.Author.Needs.{needs}
+use native.Mathlib.Omega.{arith}
+use lib.ListN.{length, take, drop}
+use Rattle.maps.specs.Given.{Given, lent}
+use Rattle.maps.specs.Verdict.{accepts}
+use Rattle.maps.specs.Answer.{judgedOf}
+use Rattle.maps.proofs.Answer.{passed-accepts}
+use Rattle.labels.specs.Judging.{checkAnswer}
+use Rattle.drawer.specs.Record.{recordSize, recordBytes, filedIn}
+use Rattle.drawer.specs.Drawer.{Drawer, drawer, layoutOf}
+use Rattle.drawer.specs.Inside.{Within, Comparable, nextAnswer}
+use Rattle.drawer.proofs.Calls.{made-layout, made-comparable, filing-checked, filing-judged, next-within, filing-done}
 use Rattle.drawer.proofs.file.file_layout.Statement.{statement}
 use Rattle.drawer.proofs.file.file_layout.Tie as tie
-use Rattle.drawer.proofs.file.file_layout.Reads as reads
-use Rattle.drawer.proofs.file.file_layout.Lts as lts
-use Rattle.drawer.proofs.file.copy_record.Reads as copy-record-reads
-use Rattle.drawer.proofs.file.judge_next.Reads as judge-next-reads
-use Rattle.drawer.proofs.write.make_record.Reads as make-record-reads
 
--- src/file.rt:92:9
-make-record-requires : tie.Need-make-record-requires
-make-record-requires c κs = ?
+-- the places of this proof
+abbrev start : tie.After-make-record → tie.Start
+start c = c .before .before .before .before
 
--- src/file.rt:93:30
-enum-known-made : tie.Need-enum-known-made
-enum-known-made c = search needs
+abbrev made : tie.After-enum-told → tie.After-make-record
+made c = c .before .before
 
--- src/file.rt:94:9
+abbrev accepted : tie.After-judge-next → tie.After-enum-told
+accepted c = c .before .before .before
+
+abbrev judged : tie.After-enum-told2 → tie.After-judge-next
+judged c = c .before .before
+
+-- what the caller lends
+abbrev given : tie.Start → Given
+given s = lent (s .args .n) (s .args .m) (s .args .table .now)
+
+abbrev lent-drawer : tie.Start → Drawer
+lent-drawer s = drawer (s .args .count) (s .args .bytes .now)
+
+-- the map is accepted
+takes : (c : tie.After-enum-told) → accepts (checkAnswer (given (start (made c)))) ≡ true
+takes c = passed-accepts _ (sym (c .enum-told .given .1) ∙ made c .make-record .ensures .answer)
+
+small : (s : tie.Start) → s .args .die ≤ 4294967295
+small s = omega (arith, s .fits .die)
+
+-- the record to be filed
+abbrev filed : tie.After-enum-told → List ℕ
+filed c = made c .make-record .last .1 .1 .1 .1 .0
+
+filed-is : (c : tie.After-enum-told) →
+    let s = start (made c) in
+    filed c ≡ recordBytes (record { die = s .args .die; layout = layoutOf (given s) })
+filed-is c = made c .make-record .ensures .written (takes c)
+
+comparable : (c : tie.After-enum-told) → Comparable (filed c)
+comparable c = rw (filed-is c) (made-comparable _ _ (small (start (made c))) (takes c))
+
+-- what stands against it
+next-is : (c : tie.After-judge-next) →
+    let s = start (made (accepted c)) in
+    c .judge-next .result ≡ judgedOf (nextAnswer (s .args .die) (layoutOf (given s)) (lent-drawer s))
+next-is c =
+    let a = accepted c in
+    let s = start (made a) in
+    c .judge-next .ensures
+    ∙ ap (λ (l : Given). judgedOf (nextAnswer (s .args .die) l (lent-drawer s)))
+    (ap (λ (r : List ℕ). filedIn r .layout) (filed-is a) ∙ made-layout _ _ (small s) (takes a))
+
+-- nothing does, so there is room
+room : (c : tie.After-enum-told2) →
+    let s = start (made (accepted (judged c))) in
+    Within (s .args .count + 1) (s .args .bytes .now)
+room c = let j = judged c in next-within _ _ _ (takes (accepted j)) (sym (c .enum-told2 .given .1) ∙ next-is j)
+
+blank : tie.Need-make-record-requires
+unfolding recordSize
+blank c κs = refl
+
+long : tie.Need-slice-aggregate-judge-next
+unfolding recordSize
+long c = sym (comparable (c .before) .long)
+
 returns : tie.Need-returns
-returns c = ?
+returns c =
+    let m = c .before .before .before in
+    filing-checked _ _ _ _ _ (sym (c .before .made .given .1) ∙ m .make-record .ensures .answer)
 
-enum-told : tie.Need-enum-told
-enum-told c = search needs
-
--- src/file.rt:96:34
-slice-aggregate-judge-next : tie.Need-slice-aggregate-judge-next
-slice-aggregate-judge-next c = ?
-
--- src/file.rt:96:9
-judge-next-requires : tie.Need-judge-next-requires
-judge-next-requires c κs = ?
-
--- src/file.rt:97:30
-enum-known-judged : tie.Need-enum-known-judged
-enum-known-judged c = search needs
-
--- src/file.rt:98:9
-same-length : tie.Need-same-length
-same-length c = search needs
-
--- src/file.rt:98:9
 returns-2 : tie.Need-returns-2
-returns-2 c = ?
+returns-2 c =
+    let j = c .before .before .before in
+    filing-judged _ _ _ (takes (accepted j)) _ _ (sym (c .before .judged .given .1) ∙ next-is j)
 
-enum-told-2 : tie.Need-enum-told-2
-enum-told-2 c = search needs
-
--- src/file.rt:100:32
-mul-copy-record : tie.Need-mul-copy-record
-mul-copy-record c = ?
-
--- src/file.rt:100:5
 copy-record-requires : tie.Need-copy-record-requires
-copy-record-requires c κs = ?
+unfolding recordSize
+copy-record-requires c κs =
+    let e = c .before .before in
+    record { long = comparable (accepted (judged e)) .long; room = omega (arith, room e .inside) }
 
--- src/file.rt:101:28
-add-t23 : tie.Need-add-t23
-add-t23 c = ?
-
--- src/file.rt:81:1
-same-length-2 : tie.Need-same-length-2
-same-length-2 c = search needs
-
--- src/file.rt:81:1
 returns-3 : tie.Need-returns-3
-returns-3 c = ?
+returns-3 c =
+    let copied = c .before .before in
+    let e = copied .before .before .before in
+    let a = accepted (judged e) in
+    filing-done _ _ _ (takes a) (sym (e .enum-told2 .given .1) ∙ next-is (judged e)) _
+    (rw (filed-is a) at (copied .copy-record .ensures))
 
 pub file-layout-spec : {M : Type 1} → statement M
 file-layout-spec =
     tie.close
     (tie.spec
-    make-record-requires
-    enum-known-made
+    blank
+    (λ c. search needs)
     returns
-    enum-told
-    slice-aggregate-judge-next
-    judge-next-requires
-    enum-known-judged
-    same-length
+    (λ c. search needs)
+    long
+    (λ c κs. comparable (c .before .before))
+    (λ c. search needs)
+    (λ c. search needs)
     returns-2
-    enum-told-2
-    mul-copy-record
+    (λ c. search needs)
+    (λ c. omega (arith, room (c .before .before) .few))
     copy-record-requires
-    add-t23
-    same-length-2
+    (λ c. omega (arith, room (c .before .before .before .before .before) .few))
+    (λ c. search needs)
     returns-3)

@@ -1,47 +1,43 @@
+-- `drawer::search::found` meets its contract: the part of the drawer that search names, or none. Assumes nothing.
+use Prim.Native.Nat.{ℕ}
+use mathlib.Core.Path.{_≡_, refl, sym, _∙_}
+use mathlib.Core.List.{List}
 use borrow.Author.Needs.{needs}
+use Rattle.maps.specs.Given.{Given, lent}
+use Rattle.drawer.specs.Drawer.{Drawer, drawer, recordAt, ownBytes}
+use Rattle.drawer.specs.Inside.{HasRecord}
+use Rattle.drawer.proofs.Calls.{own-named, own-none}
 use Rattle.drawer.proofs.search.found.Statement.{statement}
 use Rattle.drawer.proofs.search.found.Tie as tie
-use Rattle.drawer.proofs.search.found.Reads as reads
-use Rattle.drawer.proofs.search.found.Lts as lts
-use Rattle.drawer.proofs.check.record_at.Reads as record-at-reads
-use Rattle.drawer.proofs.search.search_drawer.Reads as search-drawer-reads
 
--- src/search.rt:50:36
-search-drawer-requires : tie.Need-search-drawer-requires
-search-drawer-requires c κs = search needs
+-- the places of this proof
+abbrev searched : tie.After-at → tie.After-search-drawer
+searched c = c .before .before
 
--- src/search.rt:50:25
-enum-known-at : tie.Need-enum-known-at
-enum-known-at c = search needs
+abbrev start : tie.After-search-drawer → tie.Start
+start c = c .before .before .before
 
--- src/search.rt:51:16
-enum-told : tie.Need-enum-told
-enum-told c = search needs
+-- the record that search names lies inside the bytes, and its bytes are those handed back
+named : (c : tie.After-at) →
+    let s = start (searched c) in
+    let k = c .at .given .0 .1 .0 in
+    HasRecord k (s .args .bytes .now)
+    × (recordAt (s .args .bytes .now) k ≡ ownBytes (lent (s .args .n) (s .args .m) (s .args .table .now)) (drawer (s .args .count) (s .args .bytes .now)))
+named c = own-named _ _ _ _ (sym (c .at .given .1) ∙ searched c .search-drawer .ensures)
 
--- src/search.rt:51:9
-slice-aggregate-result : tie.Need-slice-aggregate-result
-slice-aggregate-result c = search needs
-
--- src/search.rt:51:9
 returns : tie.Need-returns
-returns c = ?
-
--- src/search.rt:53:5
-record-at-requires : tie.Need-record-at-requires
-record-at-requires c κs = ?
-
--- src/search.rt:47:1
-returns-2 : tie.Need-returns-2
-returns-2 c = ?
+returns c =
+    let told = c .before in
+    own-none _ _ _ _ (sym (told .enum-told .given .1) ∙ told .before .before .search-drawer .ensures)
 
 pub found-spec : {M : Type 1} → statement M
 found-spec =
     tie.close
     (tie.spec
-    search-drawer-requires
-    enum-known-at
-    enum-told
-    slice-aggregate-result
+    (λ c κs. search needs)
+    (λ c. search needs)
+    (λ c. search needs)
+    (λ c. refl)
     returns
-    record-at-requires
-    returns-2)
+    (λ c κs. named (c .before) .0)
+    (λ c. c .record-at .ensures .0 ∙ named (c .before .before) .1))

@@ -16,28 +16,35 @@ use Prim.Native.Nat.{ℕ, zero, suc, _+_, _-_, _*_, _≤_, _<_}
 use mathlib.Core.Path.{_≡_, refl, sym, ap, ap₂, _∙_}
 use mathlib.Core.Bool.{Bool, true, false, cond, _&&_}
 use mathlib.Core.List.{List, [], _∷_, _++_}
+use types.Run.{OneOf, miss}
+use denote.Enum.Declared.{tagOf}
 use native.Mathlib.Omega.{arith}
 use native.Mathlib.Nat.{sub-zero}
 use native.Mathlib.Numerals.{add-one}
 use borrow.Author.Tests.{eq-eqb, ne-eqb, le-leb, lt-leb}
 use lib.Dec.{eqb, leb}
 use lib.Seq.{drop-cons, drop-drop, set-at, take-at, append-snoc}
-use lib.ListN.{length, getD, set, take, drop, drop-of-length-le}
+use lib.ListN.{length, getD, set, take, drop, drop-of-length-le, length-append, length-drop}
 use Rattle.maps.specs.Least.{nth}
 use Rattle.maps.specs.Accepted.{InBounds}
-use Rattle.maps.specs.Given.{Given, mapOf}
-use Rattle.maps.specs.Verdict.{accepts}
+use Rattle.maps.specs.Given.{Given, lent, mapOf, Shaped}
+use Rattle.maps.specs.Verdict.{Verdict, refused, accepts}
 use Rattle.maps.specs.Rules.{judgeDimension, judgeSize}
 use Rattle.maps.proofs.Least.{true-not-false}
 use Rattle.maps.proofs.Verdict.{unless-accepts}
 use Rattle.labels.specs.Judging.{judgeMap}
-use Rattle.words.specs.Words.{same}
+use Rattle.labels.proofs.Judging.{shaped-map}
+use Rattle.words.specs.Words.{same, signature}
+use Rattle.words.specs.Own.{ownAnswer}
+use Rattle.words.specs.declared.own_signature.Own.{Own}
+use Rattle.words.specs.declared.own_signature.Own.the-variants as own
 use Rattle.drawer.specs.Record as records
-use Rattle.drawer.specs.Record.{Fault, bad, good, no-map, fromBytes, numbers, filedIn, zeroByteIn, fillingIn, allZero, sameLayout, provided, readTable, asSigned, readRecord}
+use Rattle.drawer.specs.Record.{Fault, bad, good, no-map, other-word, fromBytes, numbers, filedIn, zeroByteIn, fillingIn, allZero, sameLayout, provided, readTable, asSigned, readRecord}
 use Rattle.drawer.specs.Inside.{headerOf, readingOf}
 use Rattle.drawer.specs.declared.fields.Reading.{Reading}
 use Rattle.drawer.specs.declared.fields.Reading.the-variants.{Layout, WrongDimension, WrongSize, NoDie, WrongZeroByte, WrongFilling, NoMap, OtherWord}
-use Rattle.drawer.proofs.Reading.{accept-bounds, length-numbers}
+use Rattle.drawer.proofs.fields.Reading.{the-type}
+use Rattle.drawer.proofs.Reading.{accept-bounds, length-numbers, length-table}
 
 pub fromBytes-two : (bs : List ℕ) (at : ℕ) → at + 2 ≤ length bs → fromBytes (take 2 (drop at bs)) ≡ getD bs at 0 + 256 * getD bs (at + 1) 0
 unfolding fromBytes
@@ -100,7 +107,7 @@ pub copying-done : {bs word₀ word : List ℕ} {size i : ℕ} → Copying bs wo
 copying-done {bs} {word₀} {word} {size} {i} s past = let all : i ≡ size = omega arith in rw all at (s .so-far)
 
 -- a header that has its fields
-pub isLayout : Reading → Bool
+unfoldable pub isLayout : Reading → Bool
 isLayout (Layout die n m) = true
 isLayout WrongDimension = false
 isLayout WrongSize = false
@@ -109,6 +116,18 @@ isLayout WrongZeroByte = false
 isLayout WrongFilling = false
 isLayout (NoMap number place) = false
 isLayout OtherWord = false
+
+-- an answer that `let .. else` does not take apart is a fault
+pub other-fault : (h : Reading) → OneOf (1 ∷ 2 ∷ 3 ∷ 4 ∷ 5 ∷ 6 ∷ 7 ∷ []) (tagOf the-type h) → isLayout h ≡ false
+unfolding isLayout
+other-fault (Layout die n m) key = absurd (miss (1 ∷ 2 ∷ 3 ∷ 4 ∷ 5 ∷ 6 ∷ 7 ∷ []) 0 tt key)
+other-fault WrongDimension key = refl
+other-fault WrongSize key = refl
+other-fault NoDie key = refl
+other-fault WrongZeroByte key = refl
+other-fault WrongFilling key = refl
+other-fault (NoMap number place) key = refl
+other-fault OtherWord key = refl
 
 module _ (r : List ℕ) where
   -- what is left to be read where the header has its fields: the word
@@ -137,6 +156,10 @@ module _ (r : List ℕ) where
       refl)
       refl)
       refl
+
+  -- a fault of the header is the reading
+  pub header-fault : (h : Reading) → h ≡ headerOf r → isLayout h ≡ false → readingOf h r ≡ readRecord r
+  header-fault h is e = sym (header-reads ∙ ap left (sym is) ∙ simp e)
 
 -- the tests of 1 and 2, case by case
 module _ (l : Given) where
@@ -312,6 +335,49 @@ pub copied-table : (r word rest : List ℕ) (size : ℕ) → word ≡ numbers si
     take size word ≡ filedIn r .layout .table
 copied-table r word rest size e is =
     ap (take size) e ∙ take-at (numbers size (drop 8 r)) rest size (length-numbers size (drop 8 r)) ∙ sym (table-is r size is)
+
+-- the array is as long as it was
+pub copied-long : (bs word word₀ : List ℕ) (size : ℕ) → word ≡ numbers size bs ++ drop size word₀ → size ≤ length word₀ → length word ≡ length word₀
+copied-long bs word word₀ size e room = rw (e, length-append, length-numbers, length-drop) (omega arith)
+
+-- the reading, by what the word is
+unfoldable pub wordTold : ℕ → ℕ → ℕ → Own → Reading
+wordTold die n m own.Signature = Layout die n m
+wordTold die n m own.Other = OtherWord
+wordTold die n m (own.Refused number place) = NoMap number place
+
+module _ (r : List ℕ) where
+  abbrev layout : Given
+  layout = filedIn r .layout
+
+  -- the answer on the word, by whether the map is accepted and whether its word is the signature
+  signed-cases : (s : Bool) →
+      readingOf (wordTold (filedIn r .die) (layout .n) (layout .m) (cond s own.Signature own.Other)) r ≡ provided s other-word (good (filedIn r))
+  unfolding wordTold readingOf provided filedIn
+  signed-cases true = refl
+  signed-cases false = refl
+
+  own-cases : (v : Verdict) (b : Bool) →
+      readingOf (wordTold (filedIn r .die) (layout .n) (layout .m) (cond b (cond (same (layout .table) (signature (mapOf layout))) own.Signature own.Other) (own.Refused (v .number) (v .place)))) r
+      ≡ asSigned (provided b (no-map v) (good (filedIn r)))
+  unfolding wordTold readingOf asSigned provided refused
+  own-cases v true = signed-cases (same (layout .table) (signature (mapOf layout)))
+  own-cases v false = refl
+
+  own-read : Shaped layout → readingOf (wordTold (filedIn r .die) (layout .n) (layout .m) (ownAnswer layout)) r ≡ wordRead r
+  unfolding ownAnswer
+  own-read shaped = rw (shaped-map layout shaped) (own-cases (judgeMap (mapOf layout)) (accepts (judgeMap (mapOf layout))))
+
+  -- the answer on a word that was copied from the record decides its reading
+  pub word-reads : (die n m : ℕ) (w : List ℕ) (o : Own) → Layout die n m ≡ headerOf r → w ≡ layout .table → o ≡ ownAnswer (lent n m w) →
+      readingOf (wordTold die n m o) r ≡ readRecord r
+  unfolding isLayout
+  word-reads die n m w o is copied told =
+      let k = header-known r die n m (sym is) in
+      let whole : Shaped layout = record { bounds = rw (k .is-n, k .is-m) at (k .bounds); long = length-table r } in
+      let same-layout : lent n m w ≡ layout = λ i. lent (k .is-n i) (k .is-m i) (copied i) in
+      rw (told, same-layout, k .is-die, k .is-n, k .is-m) (own-read whole)
+      ∙ sym (header-reads r ∙ ap (left r) (sym is))
 
 -- two layouts, by what is read of them
 module _ (r s : List ℕ) where

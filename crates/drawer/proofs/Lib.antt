@@ -10,3 +10,6 @@ pub mod Filing
 pub mod Plain
 pub mod Theorems
 pub mod Inside
+pub mod Checking
+pub mod Writing
+pub mod Calls

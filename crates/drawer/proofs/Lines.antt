@@ -195,7 +195,7 @@ module _ (D : Drawer) (k : ℕ) where
       back (fails e) b = absurd (passed-not-bad e b)
 
 -- a test of two bounds fails exactly when one of them is exceeded
-bounds-fail : (a b c d : ℕ) → ((leb a b && leb c d) ≡ false) ↔ ((b < a) ⊎ (d < c))
+pub bounds-fail : (a b c d : ℕ) → ((leb a b && leb c d) ≡ false) ↔ ((b < a) ⊎ (d < c))
 bounds-fail a b c d = (to (tested (leb a b)), back (tested (leb a b)))
   where
     to : Tested (leb a b) → (leb a b && leb c d) ≡ false → (b < a) ⊎ (d < c)

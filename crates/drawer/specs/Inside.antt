@@ -80,10 +80,10 @@ readingOf WrongFilling r = bad filling
 readingOf (NoMap number place) r = bad (no-map (refused number place))
 readingOf OtherWord r = bad other-word
 
--- so many records lie inside the bytes
+-- so many records of 2,048 bytes lie inside the bytes
 pub record Within (count : ℕ) (bytes : List ℕ) : Type 0 where
-  pub few : count ≤ mostRecords
-  pub inside : count * recordSize ≤ length bytes
+  pub few : count ≤ 1024
+  pub inside : count * 2048 ≤ length bytes
 
 -- and record k is one of them
 pub record HasRecord (k : ℕ) (bytes : List ℕ) : Type 0 where

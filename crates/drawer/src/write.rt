@@ -23,6 +23,12 @@ fn put(filed: &mut [u8; 2048], at: usize, size: usize, x: usize)
     }
 }
 
+fn wide(x: u16) -> usize
+    ensures { λ r. ⌜ r ≡ x ⌝ }
+{
+    x as usize
+}
+
 // The numbers of a word are put after the first eight bytes.
 fn put_word(filed: &mut [u8; 2048], word: &[u16; 1020], size: usize)
     requires { ⌜ PutsWord size (now word) (now filed) ⌝ }
@@ -30,7 +36,7 @@ fn put_word(filed: &mut [u8; 2048], word: &[u16; 1020], size: usize)
 {
     let mut i = 0;
     while i < size {
-        put(filed, 8 + 2 * i, 2, word[i] as usize);
+        put(filed, 8 + 2 * i, 2, wide(word[i]));
         i += 1;
     }
 }

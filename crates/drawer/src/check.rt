@@ -42,12 +42,12 @@ pub(crate) fn first_with_layout(count: usize, bytes: &[u8], filed: &[u8]) -> usi
     requires { ⌜ Seeks count (now bytes) (now filed) ⌝ }
     ensures { λ r. ⌜ r ≡ recordOf (filedIn (now (filed .entry)) .layout) (drawer count (now (bytes .entry))) ⌝ }
 {
-    let mut k = 1;
-    while k <= count {
-        if same_layout(record_at(bytes, k), filed) {
-            return k;
+    let mut at = 1;
+    while at <= count {
+        if same_layout(record_at(bytes, at), filed) {
+            return at;
         }
-        k += 1;
+        at += 1;
     }
     0
 }

@@ -10,10 +10,10 @@ use Rattle.drawer.proofs.check.first_with_layout.Statement.{statement}
 use Rattle.drawer.proofs.check.first_with_layout.Tie as tie
 
 abbrev Inv-loop : tie.InvT-loop
-Inv-loop count bytes filed k₀ k = Passing (λ j. hasLayout (filedIn filed .layout) (entryAt bytes j)) count k
+Inv-loop count bytes filed at₀ at = Passing (λ j. hasLayout (filedIn filed .layout) (entryAt bytes j)) count at
 
 abbrev μ-loop : tie.MeasureT-loop
-μ-loop count bytes filed k₀ k = count + 1 - k
+μ-loop count bytes filed at₀ at = count + 1 - at
 
 -- the places of this proof
 abbrev at-loop : tie.After-same-layout Inv-loop μ-loop → tie.At-loop Inv-loop μ-loop
@@ -25,7 +25,7 @@ start l = l .before .before .before
 -- the test in the code is that of the definition
 test-is : (c : tie.After-same-layout Inv-loop μ-loop) →
     let s = start (at-loop c) in
-    c .same-layout .result ≡ hasLayout (filedIn (s .args .filed .now) .layout) (entryAt (s .args .bytes .now) (at-loop c .loop .k))
+    c .same-layout .result ≡ hasLayout (filedIn (s .args .filed .now) .layout) (entryAt (s .args .bytes .now) (at-loop c .loop .at))
 unfolding entryAt hasLayout
 test-is c =
     c .same-layout .ensures

@@ -1,6 +1,7 @@
 // Reads cases from standard input, in the form of tests/CASES.md, and prints the line of each.
-// It answers `check`, `sign`, `match` and `judge`. Any other call, a line that is malformed or too long, and a list of more than
-// 2,048 numbers print `?`.
+// It answers every call there. A line that is malformed or longer than 131,072 bytes, a list of more than 2,048 numbers, and a
+// drawer of more bytes than 1,025 records have print `?`.
+mod drawers;
 mod pairs;
 mod print;
 mod read;
@@ -119,7 +120,8 @@ fn answer(line: &[u8]) {
         b's' => answer_sign(line),
         b'm' => pairs::answer_match(line),
         b'j' => pairs::answer_judge(line),
-        _ => print::refuse(),
+        // A call on a drawer, or none.
+        other => drawers::answer(line, other),
     }
 }
 
@@ -132,19 +134,19 @@ fn end_line(line: &[u8], length: usize) {
 }
 
 // One byte of the input. Answers the length of the line that is under way after it.
-fn take_byte(line: &mut [u8; 16384], length: usize, byte: u8) -> usize {
+fn take_byte(line: &mut [u8; 131072], length: usize, byte: u8) -> usize {
     if byte == b'\n' {
         end_line(line, length);
         return 0;
     }
-    if length < 16384 {
+    if length < 131072 {
         line[length] = byte;
         return length + 1;
     }
-    16385
+    131073
 }
 
-fn take_bytes(line: &mut [u8; 16384], length: usize, bytes: &[u8]) -> usize {
+fn take_bytes(line: &mut [u8; 131072], length: usize, bytes: &[u8]) -> usize {
     let mut under_way = length;
     let mut i = 0;
     while i < bytes.len() {
@@ -155,7 +157,7 @@ fn take_bytes(line: &mut [u8; 16384], length: usize, bytes: &[u8]) -> usize {
 }
 
 // Takes what one reading of the input gives, and answers whether it gave anything. A reading that fails ends the input.
-fn take_some(line: &mut [u8; 16384], length: &mut usize) -> bool {
+fn take_some(line: &mut [u8; 131072], length: &mut usize) -> bool {
     let mut bytes = io::large_buffer();
     let count = io::read_full(STDIN_FILENO, &mut bytes);
     if count == 0 {
@@ -166,7 +168,7 @@ fn take_some(line: &mut [u8; 16384], length: &mut usize) -> bool {
 }
 
 // Nothing says that the input ends, so the readings are counted down from a number that no run uses up.
-fn take_all(line: &mut [u8; 16384]) {
+fn take_all(line: &mut [u8; 131072]) {
     let mut length = 0;
     let mut turns = u64::MAX;
     while turns > 0 && take_some(line, &mut length) {
@@ -179,6 +181,6 @@ fn take_all(line: &mut [u8; 16384]) {
 }
 
 fn main() {
-    let mut line = [0u8; 16384];
+    let mut line = [0u8; 131072];
     take_all(&mut line);
 }

@@ -53,7 +53,7 @@ fn decimal(out: &mut [u8; 4096], at: usize, n: u64) -> usize
 }
 
 // Ends the line, and writes out what is left of it.
-fn newline(out: &mut [u8; 4096], at: usize)
+pub(crate) fn newline(out: &mut [u8; 4096], at: usize)
     requires { ⌜ at ≤ 4096 ⌝ }
 {
     let end = byte(out, at, b'\n');
@@ -138,6 +138,57 @@ pub(crate) fn last_list(out: &mut [u8; 4096], at: usize, numbers: &[u16])
     let space = byte(out, at, b' ');
     let end = list(out, space, numbers);
     newline(out, end);
+}
+
+fn wide_byte(x: u8) -> u64 {
+    x as u64
+}
+
+// Where the run of equal bytes from `from` on ends.
+fn byte_run_end(numbers: &[u8], from: usize) -> usize
+    requires { ⌜ from < length (now numbers) ⌝ }
+    ensures { λ r. ⌜ (from < r) × (r ≤ length (now (numbers .entry))) ⌝ }
+{
+    let value = numbers[from];
+    let mut end = from + 1;
+    while end < numbers.len() {
+        if numbers[end] != value {
+            return end;
+        }
+        end += 1;
+    }
+    end
+}
+
+// A list of bytes, as the numbers that they are.
+fn byte_list(out: &mut [u8; 4096], at: usize, numbers: &[u8]) -> usize
+    requires { ⌜ at ≤ 4096 ⌝ }
+    ensures { λ r. ⌜ r ≤ 4096 ⌝ }
+{
+    let mut to = decimal(out, at, numbers.len() as u64);
+    let mut from = 0;
+    while from < numbers.len() {
+        let end = byte_run_end(numbers, from);
+        to = run(out, to, wide_byte(numbers[from]), end - from);
+        from = end;
+    }
+    to
+}
+
+// A space, a list of bytes, and the line's end.
+pub(crate) fn last_bytes(out: &mut [u8; 4096], at: usize, numbers: &[u8])
+    requires { ⌜ at ≤ 4096 ⌝ }
+{
+    let space = byte(out, at, b' ');
+    let end = byte_list(out, space, numbers);
+    newline(out, end);
+}
+
+// A line that has no more than a list of bytes.
+pub(crate) fn bytes_line(numbers: &[u8]) {
+    let mut out = [0u8; 4096];
+    let end = byte_list(&mut out, 0, numbers);
+    newline(&mut out, end);
 }
 
 fn number_of(judged: Judged) -> u64 {

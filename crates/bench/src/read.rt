@@ -1,4 +1,4 @@
-// The parts of a case, read out of its line from left to right: words, numbers, lists and maps.
+// The parts of a case, read out of its line from left to right: words, numbers, lists, bytes and maps.
 ghost use Prim.Native.Nat.{_≤_};
 ghost use lib.ListN.{length as size};
 ghost use Rattle.bench.specs.Fits.{ListFits, MapFits};
@@ -67,6 +67,16 @@ fn fill(numbers: &mut [u16], from: usize, to: usize, value: u16)
     let mut i = from;
     while i < to {
         numbers[i] = value;
+        i += 1;
+    }
+}
+
+fn fill_bytes(bytes: &mut [u8], start: usize, end: usize, value: u8)
+    requires { ⌜ end ≤ size (now bytes) ⌝ }
+{
+    let mut i = start;
+    while i < end {
+        bytes[i] = value;
         i += 1;
     }
 }
@@ -201,6 +211,50 @@ impl Cursor {
                 return Numbers::Wrong;
             }
             fill(numbers, filled, filled + times, value);
+            filled += times;
+            cursor = after;
+        }
+        Numbers::Read {
+            length,
+            next: cursor,
+        }
+    }
+
+    // The bytes of a drawer, which are a list of numbers up to 255.
+    pub(crate) fn bytes(self, line: &[u8], bytes: &mut [u8]) -> Numbers
+        ensures { λ r. ⌜ ListFits (size (now (bytes .entry))) r ⌝ }
+    {
+        let Number::Read {
+            value: length,
+            next,
+        } = self.number(line)
+        else {
+            return Numbers::Wrong;
+        };
+        if bytes.len() < length {
+            return Numbers::Wrong;
+        }
+        let mut cursor = next;
+        let mut filled = 0;
+        while filled < length {
+            let Run::Read {
+                value,
+                times,
+                next: after,
+            } = cursor.run(line)
+            else {
+                return Numbers::Wrong;
+            };
+            if 255 < value {
+                return Numbers::Wrong;
+            }
+            if times == 0 {
+                return Numbers::Wrong;
+            }
+            if length - filled < times {
+                return Numbers::Wrong;
+            }
+            fill_bytes(bytes, filled, filled + times, value as u8);
             filled += times;
             cursor = after;
         }

@@ -1,25 +1,25 @@
 -- The laws behind the functions inside: numbers read from bytes, a word read number by number, a header, two records compared.
 --     fromBytes-two, fromBytes-four    what 2 and 4 bytes say, by their parts
---     allZero-past, allZero-on, allZero-off
---                                      a list of zeros, from an index on
+--     both-turn, both-done             a loop over many tests, all of which are made
+--     allZero-past, allZero-here       a list of zeros, from an index on
 --     numbers-suc                      one number more
 --     Copying                          a word under way into an array
 --     header-reads                     a record's reading is what its header leaves of it: the word, or the header's fault
 --     header-low, .. header-whole      a header, by the tests that led to it
 --     header-known                     what a header with its fields says of its record: `Known`
---     sameFrom                         two words are the same from an index on
+--     sameFrom, same-..                two lists of numbers are the same from an index on
 --     table-is, copied-table           the table of a record, as its bytes say and as it was copied
---     layout-parted-n, layout-parted-m, layout-by-word
---                                      two layouts, by n, by m and by their words
+--     layout-parted-m, layout-parted-n, layout-by-word
+--                                      two layouts, by m, by n and by their words
 -- Assumes nothing.
 use Prim.Native.Nat.{ℕ, zero, suc, _+_, _-_, _*_, _≤_, _<_}
 use mathlib.Core.Path.{_≡_, refl, sym, ap, ap₂, _∙_}
-use mathlib.Core.Bool.{Bool, true, false, cond, _&&_}
+use mathlib.Core.Bool.{Bool, true, false, cond, _&&_, and-assoc, and-true, and-false}
 use mathlib.Core.List.{List, [], _∷_, _++_}
 use types.Run.{OneOf, miss}
 use denote.Enum.Declared.{tagOf}
 use native.Mathlib.Omega.{arith}
-use native.Mathlib.Nat.{sub-zero}
+use native.Mathlib.Nat.{sub-zero, zero-add}
 use native.Mathlib.Numerals.{add-one}
 use borrow.Author.Tests.{eq-eqb, ne-eqb, le-leb, lt-leb}
 use lib.Dec.{eqb, leb}
@@ -59,21 +59,23 @@ fromBytes-four bs at h =
     rw (two, drop-cons bs at 0 (omega arith), drop-cons bs (suc at) 0 (omega arith), drop-cons bs (suc (suc at)) 0 (omega arith), drop-cons bs (suc (suc (suc at))) 0 (omega arith))
     (omega arith)
 
--- past the end there is nothing but zeros
+-- a loop over many tests: what was seen, with what is left, has the answer of the whole
+module _ (seen : Bool) where
+  pub both-turn : (here rest : Bool) {left whole now : Bool} → (seen && left) ≡ whole → left ≡ (here && rest) → now ≡ (seen && here) → (now && rest) ≡ whole
+  both-turn here rest so-far one-more is =
+      ap (λ (b : Bool). b && rest) is ∙ and-assoc seen here rest ∙ ap (λ (b : Bool). seen && b) (sym one-more) ∙ so-far
+
+  pub both-done : {left whole : Bool} → (seen && left) ≡ whole → left ≡ true → seen ≡ whole
+  both-done so-far none = sym (and-true seen) ∙ ap (λ (b : Bool). seen && b) (sym none) ∙ so-far
+
+-- a list of zeros, from an index on: past the end, and one byte more
 pub allZero-past : (bs : List ℕ) (i : ℕ) → length bs ≤ i → allZero (drop i bs) ≡ true
 unfolding allZero
 allZero-past bs i h = rw (drop-of-length-le bs h)
 
-module _ (bs : List ℕ) (i : ℕ) (inside : i < length bs) where
-  -- a zero is passed
-  pub allZero-on : getD bs i 0 ≡ 0 → allZero (drop (i + 1) bs) ≡ allZero (drop i bs)
-  unfolding allZero
-  allZero-on e = rw (add-one i, drop-cons bs i 0 inside) (simp (eq-eqb (getD bs i 0) 0 e))
-
-  -- another byte decides
-  pub allZero-off : (getD bs i 0 ≡ 0 → ⊥) → allZero (drop i bs) ≡ false
-  unfolding allZero
-  allZero-off e = rw (drop-cons bs i 0 inside) (simp (ne-eqb (getD bs i 0) 0 e))
+pub allZero-here : (bs : List ℕ) (i : ℕ) → i < length bs → allZero (drop i bs) ≡ (eqb (getD bs i 0) 0 && allZero (drop (i + 1) bs))
+unfolding allZero
+allZero-here bs i inside = rw (add-one i, drop-cons bs i 0 inside) refl
 
 pub numbers-suc : (k : ℕ) (bs : List ℕ) → numbers (suc k) bs ≡ numbers k bs ++ (fromBytes (take 2 (drop (2 * k) bs)) ∷ [])
 unfolding numbers
@@ -289,41 +291,63 @@ header-known r die n m e =
       bounds = rw (is-n, is-m) at (accept-bounds l (dim .0) (size .0));
     }
 
--- two words of one size are the same from index i on
-abbrev pub sameFrom : List ℕ → List ℕ → ℕ → ℕ → Bool
-sameFrom r s size i = same (numbers (size - i) (drop (8 + 2 * i) r)) (numbers (size - i) (drop (8 + 2 * i) s))
+-- so many numbers, from a byte on, are the same from index i on
+abbrev pub sameFrom : List ℕ → List ℕ → ℕ → ℕ → ℕ → Bool
+sameFrom r s at count i = same (numbers (count - i) (drop (at + 2 * i) r)) (numbers (count - i) (drop (at + 2 * i) s))
 
-numbers-cons : (size i : ℕ) (r : List ℕ) → i < size →
-    numbers (size - i) (drop (8 + 2 * i) r) ≡ fromBytes (take 2 (drop (8 + 2 * i) r)) ∷ numbers (size - (i + 1)) (drop (8 + 2 * (i + 1)) r)
+-- the first numbers, and the others
+numbers-split : (a b : ℕ) (bs : List ℕ) → numbers (a + b) bs ≡ numbers a bs ++ numbers b (drop (2 * a) bs)
 unfolding numbers
-numbers-cons size i r h =
-    let more : size - i ≡ suc (size - (i + 1)) = omega arith in
-    let next : 8 + 2 * i + 2 ≡ 8 + 2 * (i + 1) = omega arith in
-    ap (λ (k : ℕ). numbers k (drop (8 + 2 * i) r)) more
-    ∙ ap (λ (l : List ℕ). fromBytes (take 2 (drop (8 + 2 * i) r)) ∷ numbers (size - (i + 1)) l) (drop-drop 2 (8 + 2 * i) r ∙ ap (λ (k : ℕ). drop k r) next)
+numbers-split zero b bs = rw (zero-add b) refl
+numbers-split (suc a) b bs =
+    let more : suc a + b ≡ suc (a + b) = omega arith in
+    let two : 2 * suc a ≡ 2 + 2 * a = omega arith in
+    ap (λ (k : ℕ). numbers k bs) more
+    ∙ ap (λ (l : List ℕ). fromBytes (take 2 bs) ∷ l) (numbers-split a b (drop 2 bs) ∙ ap (λ (l : List ℕ). numbers a (drop 2 bs) ++ numbers b l) (drop-drop (2 * a) 2 bs ∙ ap (λ (k : ℕ). drop k bs) (sym two)))
 
-pub same-start : (r s : List ℕ) (size : ℕ) → sameFrom r s size 0 ≡ same (numbers size (drop 8 r)) (numbers size (drop 8 s))
-same-start r s size = rw (sub-zero size)
+same-split : (xs xs′ ys ys′ : List ℕ) → length xs ≡ length xs′ → same (xs ++ ys) (xs′ ++ ys′) ≡ (same xs xs′ && same ys ys′)
+unfolding same
+same-split [] [] ys ys′ e = refl
+same-split [] (x ∷ xs′) ys ys′ e = absurd (omega (arith, e))
+same-split (x ∷ xs) [] ys ys′ e = absurd (omega (arith, e))
+same-split (x ∷ xs) (y ∷ ys₀) ys ys′ e =
+    ap (λ (b : Bool). eqb x y && b) (same-split xs ys₀ ys ys′ (omega (arith, e)))
+    ∙ sym (and-assoc (eqb x y) (same xs ys₀) (same ys ys′))
 
-module _ (r s : List ℕ) (size i : ℕ) where
-  pub same-past : size ≤ i → sameFrom r s size i ≡ true
+pub same-start : (r s : List ℕ) (at count : ℕ) → sameFrom r s at count 0 ≡ same (numbers count (drop at r)) (numbers count (drop at s))
+same-start r s at count = let none : at + 2 * 0 ≡ at = omega arith in rw (sub-zero count, none) refl
+
+module _ (r s : List ℕ) (at count i : ℕ) where
+  pub same-past : count ≤ i → sameFrom r s at count i ≡ true
   unfolding same numbers
   same-past h =
-      let none : size - i ≡ 0 = omega arith in
-      ap (λ (k : ℕ). same (numbers k (drop (8 + 2 * i) r)) (numbers k (drop (8 + 2 * i) s))) none
+      let none : count - i ≡ 0 = omega arith in
+      ap (λ (k : ℕ). same (numbers k (drop (at + 2 * i) r)) (numbers k (drop (at + 2 * i) s))) none
 
-  module _ (inside : i < size) (x y : ℕ) (is-x : x ≡ fromBytes (take 2 (drop (8 + 2 * i) r))) (is-y : y ≡ fromBytes (take 2 (drop (8 + 2 * i) s))) where
-    same-here : sameFrom r s size i ≡ eqb x y && sameFrom r s size (i + 1)
-    unfolding same
-    same-here =
-        ap₂ same (numbers-cons size i r inside) (numbers-cons size i s inside)
-        ∙ sym (ap₂ (λ (a b : ℕ). eqb a b && sameFrom r s size (i + 1)) is-x is-y)
+  -- the next numbers, and what is left after them
+  pub same-block : (size : ℕ) → i + size ≤ count →
+      sameFrom r s at count i ≡ (same (numbers size (drop (at + 2 * i) r)) (numbers size (drop (at + 2 * i) s)) && sameFrom r s at count (i + size))
+  same-block size inside =
+      let more : count - i ≡ size + (count - (i + size)) = omega arith in
+      let next : at + 2 * i + 2 * size ≡ at + 2 * (i + size) = omega arith in
+      ap (λ (k : ℕ). same (numbers k (drop (at + 2 * i) r)) (numbers k (drop (at + 2 * i) s))) more
+      ∙ ap₂ same (split r more next) (split s more next)
+      ∙ same-split (numbers size (drop (at + 2 * i) r)) (numbers size (drop (at + 2 * i) s)) _ _ (length-numbers size _ ∙ sym (length-numbers size _))
+    where
+      split : (t : List ℕ) → count - i ≡ size + (count - (i + size)) → at + 2 * i + 2 * size ≡ at + 2 * (i + size) →
+          numbers (size + (count - (i + size))) (drop (at + 2 * i) t) ≡ numbers size (drop (at + 2 * i) t) ++ numbers (count - (i + size)) (drop (at + 2 * (i + size)) t)
+      split t more next =
+          numbers-split size (count - (i + size)) (drop (at + 2 * i) t)
+          ∙ ap (λ (l : List ℕ). numbers size (drop (at + 2 * i) t) ++ numbers (count - (i + size)) l)
+          (drop-drop (2 * size) (at + 2 * i) t ∙ ap (λ (k : ℕ). drop k t) next)
 
-    pub same-on : x ≡ y → sameFrom r s size (i + 1) ≡ sameFrom r s size i
-    same-on e = sym (same-here ∙ simp (eq-eqb x y e))
-
-    pub same-off : (x ≡ y → ⊥) → sameFrom r s size i ≡ false
-    same-off e = same-here ∙ simp (ne-eqb x y e)
+  -- one number
+  pub same-here : i < count → (x y : ℕ) → x ≡ fromBytes (take 2 (drop (at + 2 * i) r)) → y ≡ fromBytes (take 2 (drop (at + 2 * i) s)) →
+      sameFrom r s at count i ≡ (eqb x y && sameFrom r s at count (i + 1))
+  unfolding same numbers
+  same-here inside x y is-x is-y =
+      same-block 1 (omega arith)
+      ∙ ap (λ (b : Bool). b && sameFrom r s at count (i + 1)) (and-true (eqb (fromBytes (take 2 (drop (at + 2 * i) r))) (fromBytes (take 2 (drop (at + 2 * i) s)))) ∙ sym (ap₂ eqb is-x is-y))
 
 -- the table that stands in a record
 pub table-is : (t : List ℕ) (k : ℕ) → k ≡ filedIn t .layout .n * filedIn t .layout .m → filedIn t .layout .table ≡ numbers k (drop 8 t)
@@ -381,18 +405,18 @@ module _ (r : List ℕ) where
 
 -- two layouts, by what is read of them
 module _ (r s : List ℕ) where
+  pub layout-parted-m : (filedIn r .layout .m ≡ filedIn s .layout .m → ⊥) → sameLayout (filedIn r .layout) (filedIn s .layout) ≡ false
+  unfolding sameLayout
+  layout-parted-m e = simp (ne-eqb (filedIn r .layout .m) (filedIn s .layout .m) e, and-false)
+
   pub layout-parted-n : (filedIn r .layout .n ≡ filedIn s .layout .n → ⊥) → sameLayout (filedIn r .layout) (filedIn s .layout) ≡ false
   unfolding sameLayout
   layout-parted-n e = simp (ne-eqb (filedIn r .layout .n) (filedIn s .layout .n) e)
 
-  module _ (one-n : filedIn r .layout .n ≡ filedIn s .layout .n) where
-    pub layout-parted-m : (filedIn r .layout .m ≡ filedIn s .layout .m → ⊥) → sameLayout (filedIn r .layout) (filedIn s .layout) ≡ false
-    unfolding sameLayout
-    layout-parted-m e = simp (eq-eqb (filedIn r .layout .n) (filedIn s .layout .n) one-n, ne-eqb (filedIn r .layout .m) (filedIn s .layout .m) e)
-
-    pub layout-by-word : filedIn r .layout .m ≡ filedIn s .layout .m → (size : ℕ) → size ≡ filedIn s .layout .n * filedIn s .layout .m →
-        sameLayout (filedIn r .layout) (filedIn s .layout) ≡ same (numbers size (drop 8 r)) (numbers size (drop 8 s))
-    unfolding sameLayout
-    layout-by-word one-m size is =
-        simp (eq-eqb (filedIn r .layout .n) (filedIn s .layout .n) one-n, eq-eqb (filedIn r .layout .m) (filedIn s .layout .m) one-m)
-        (ap₂ same (table-is r size (is ∙ sym (ap₂ (λ (a b : ℕ). a * b) one-n one-m))) (table-is s size is))
+  pub layout-by-word : filedIn r .layout .n ≡ filedIn s .layout .n → filedIn r .layout .m ≡ filedIn s .layout .m →
+      (size : ℕ) → size ≡ filedIn s .layout .n * filedIn s .layout .m →
+      sameLayout (filedIn r .layout) (filedIn s .layout) ≡ same (numbers size (drop 8 r)) (numbers size (drop 8 s))
+  unfolding sameLayout
+  layout-by-word one-n one-m size is =
+      simp (eq-eqb (filedIn r .layout .n) (filedIn s .layout .n) one-n, eq-eqb (filedIn r .layout .m) (filedIn s .layout .m) one-m)
+      (ap₂ same (table-is r size (is ∙ sym (ap₂ (λ (a b : ℕ). a * b) one-n one-m))) (table-is s size is))

@@ -1,5 +1,6 @@
 -- For the functions inside: no public contract cites this file.
 --     HoldsWord size r word    the bytes r have a word of so many numbers, and the array has room for it
+--     HoldNumbers at count r s the bytes r and s each have so many numbers from an index on
 --     HoldsWords size r s      the bytes r and s each have a word of so many numbers
 --     Comparable, Compares     a record whose word fits, and two records whose layouts may be compared
 --     headerOf r               the fields of the record r, or the first fault up to the filling
@@ -35,6 +36,13 @@ pub record HoldsWord (size : ℕ) (r word : List ℕ) : Type 0 where
   pub few : size ≤ 1020
   pub long : 8 + 2 * size ≤ length r
   pub room : length word ≡ 1020
+
+-- the bytes r and s each have so many numbers from an index on
+pub record HoldNumbers (at count : ℕ) (r s : List ℕ) : Type 0 where
+  pub few : count ≤ 1020
+  pub near : at ≤ 2048
+  pub first-long : at + 2 * count ≤ length r
+  pub second-long : at + 2 * count ≤ length s
 
 -- the bytes r and s each have a word of so many numbers
 pub record HoldsWords (size : ℕ) (r s : List ℕ) : Type 0 where

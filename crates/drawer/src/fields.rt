@@ -1,12 +1,12 @@
 // One record of 2,048 bytes: its fields as they stand there, what reading it finds, and whether two records say the same.
 ghost use mathlib.Core.Path.{_≡_};
+ghost use mathlib.Core.Bool.{_&&_};
 ghost use mathlib.Core.List.{_++_};
 ghost use Prim.Native.Nat.{_+_, _≤_, _<_};
 ghost use lib.ListN.{length, take, drop};
-ghost use lib.Dec.{eqb};
 ghost use Rattle.words.specs.Words.{same};
 ghost use Rattle.drawer.specs.Record.{fromBytes, numbers, allZero, recordSize, filedIn, sameLayout, readRecord};
-ghost use Rattle.drawer.specs.Inside.{HoldsWord, HoldsWords, Compares, headerOf, readingOf};
+ghost use Rattle.drawer.specs.Inside.{HoldsWord, HoldNumbers, HoldsWords, Compares, headerOf, readingOf};
 use words::Own;
 
 // What reading a record finds: a filed layout, whose word stays where it stands, or the first of the record's faults.
@@ -49,18 +49,24 @@ fn number4(bytes: &[u8], at: usize) -> usize
     low + 65536 * high
 }
 
+// Both hold. No branch is taken, so that a loop over many tests does several at a time.
+fn both(first: bool, second: bool) -> bool
+    ensures { λ r. ⌜ r ≡ (first && second) ⌝ }
+{
+    first & second
+}
+
 // No byte from an index on is other than 0.
 fn filling_is_zero(bytes: &[u8], from: usize) -> bool
     ensures { λ r. ⌜ r ≡ allZero (drop from (now (bytes .entry))) ⌝ }
 {
+    let mut zero = true;
     let mut i = from;
     while i < bytes.len() {
-        if bytes[i] != 0 {
-            return false;
-        }
+        zero = both(zero, bytes[i] == 0);
         i += 1;
     }
-    true
+    zero
 }
 
 // The word is copied to the front of an array, whose rest is left as it was.
@@ -147,40 +153,50 @@ pub(crate) fn read_record(bytes: &[u8]) -> Reading
     }
 }
 
-// Two words of one size are the same.
+// So many numbers, from an index on, are the same. All are compared: the machine does several at a time.
+fn same_numbers(first: &[u8], second: &[u8], at: usize, count: usize) -> bool
+    requires { ⌜ HoldNumbers at count (now first) (now second) ⌝ }
+    ensures { λ r. ⌜ r ≡ same (numbers count (drop at (now (first .entry)))) (numbers count (drop at (now (second .entry)))) ⌝ }
+{
+    let mut alike = true;
+    let mut i = 0;
+    while i < count {
+        let here = at + 2 * i;
+        alike = both(alike, number2(first, here) == number2(second, here));
+        i += 1;
+    }
+    alike
+}
+
+// Two words of one size are the same. They are left after sixteen numbers in which they differ.
 fn same_word(first: &[u8], second: &[u8], size: usize) -> bool
     requires { ⌜ HoldsWords size (now first) (now second) ⌝ }
     ensures { λ r. ⌜ r ≡ same (numbers size (drop 8 (now (first .entry)))) (numbers size (drop 8 (now (second .entry)))) ⌝ }
 {
     let mut i = 0;
-    while i < size {
-        if number2(first, 8 + 2 * i) != number2(second, 8 + 2 * i) {
+    while i + 16 <= size {
+        if same_numbers(first, second, 8 + 2 * i, 16) {
+            i += 16;
+        } else {
             return false;
         }
-        i += 1;
     }
-    true
+    same_numbers(first, second, 8 + 2 * i, size - i)
 }
 
-// Two records have one layout. Only the second's word need fit: the first's is not read where n or m differs.
+// Two records have one layout. Only the second's word need fit: the first's is not read where n or m differs. m comes first, since
+// most records differ in it.
 pub(crate) fn same_layout(first: &[u8], second: &[u8]) -> bool
     requires { ⌜ Compares (now first) (now second) ⌝ }
     ensures { λ r. ⌜ r ≡ sameLayout (filedIn (now (first .entry)) .layout) (filedIn (now (second .entry)) .layout) ⌝ }
 {
-    let n = dimension_of(second);
-    if dimension_of(first) != n {
-        return false;
-    }
     let m = darts_of(second);
     if darts_of(first) != m {
         return false;
     }
+    let n = dimension_of(second);
+    if dimension_of(first) != n {
+        return false;
+    }
     same_word(first, second, n * m)
-}
-
-pub(crate) fn same_die(first: &[u8], second: &[u8]) -> bool
-    requires { ⌜ (length (now first) ≡ recordSize) × (length (now second) ≡ recordSize) ⌝ }
-    ensures { λ r. ⌜ r ≡ eqb (filedIn (now (first .entry)) .die) (filedIn (now (second .entry)) .die) ⌝ }
-{
-    die_of(first) == die_of(second)
 }

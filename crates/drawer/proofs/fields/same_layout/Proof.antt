@@ -15,29 +15,28 @@ if1 c = c .before .before .before
 abbrev start : tie.Else1 → tie.Start
 start c = c .before .before .before .before .before
 
--- the first record has the n of the second
-one-n : (c : tie.Else1) → filedIn (start c .args .first .now) .layout .n ≡ filedIn (start c .args .second .now) .layout .n
-one-n c = sym (c .before .dimension-of2 .ensures) ∙ c .if1 .left ∙ c .before .before .dimension-of .ensures
+-- the first record has the m of the second
+one-m : (c : tie.Else1) → filedIn (start c .args .first .now) .layout .m ≡ filedIn (start c .args .second .now) .layout .m
+one-m c = sym (c .before .darts-of2 .ensures .0) ∙ c .if1 .left ∙ c .before .before .darts-of .ensures .0
 
-one-m : (c : tie.Else2) →
+one-n : (c : tie.Else2) →
     let s = start (if1 c) in
-    filedIn (s .args .first .now) .layout .m ≡ filedIn (s .args .second .now) .layout .m
-one-m c = sym (c .before .darts-of2 .ensures .0) ∙ c .if2 .left ∙ c .before .before .darts-of .ensures .0
+    filedIn (s .args .first .now) .layout .n ≡ filedIn (s .args .second .now) .layout .n
+one-n c = sym (c .before .dimension-of2 .ensures) ∙ c .if2 .left ∙ c .before .before .dimension-of .ensures
 
 -- the size of the words is that of the second
 size : (c : tie.Else2) →
     let l = filedIn (start (if1 c) .args .second .now) .layout in
-    if1 c .before .before .dimension-of .result * c .before .before .darts-of .result ≡ l .n * l .m
-size c = ap₂ _*_ (if1 c .before .before .dimension-of .ensures) (c .before .before .darts-of .ensures .0)
+    c .before .before .dimension-of .result * if1 c .before .before .darts-of .result ≡ l .n * l .m
+size c = ap₂ _*_ (c .before .before .dimension-of .ensures) (if1 c .before .before .darts-of .ensures .0)
 
 returns : tie.Need-returns
 returns c =
-    sym (layout-parted-n _ _ (λ e. c .if1 .taken (c .before .dimension-of2 .ensures ∙ e ∙ sym (c .before .before .dimension-of .ensures))))
+    sym (layout-parted-m _ _ (λ e. c .if1 .taken (c .before .darts-of2 .ensures .0 ∙ e ∙ sym (c .before .before .darts-of .ensures .0))))
 
 returns-2 : tie.Need-returns-2
 returns-2 c =
-    let second = c .before .before in
-    sym (layout-parted-m _ _ (one-n (second .before)) (λ e. c .if2 .taken (c .before .darts-of2 .ensures .0 ∙ e ∙ sym (second .darts-of .ensures .0))))
+    sym (layout-parted-n _ _ (λ e. c .if2 .taken (c .before .dimension-of2 .ensures ∙ e ∙ sym (c .before .before .dimension-of .ensures))))
 
 mul-same-word : tie.Need-mul-same-word
 mul-same-word c = omega (arith, size c, start (if1 c) .pre .second-fits .small)
@@ -55,7 +54,7 @@ same-word-requires c κs =
 returns-3 : tie.Need-returns-3
 returns-3 c =
     let if2 = c .before in
-    c .same-word .ensures ∙ sym (layout-by-word _ _ (one-n (if1 if2)) (one-m if2) _ (size if2))
+    c .same-word .ensures ∙ sym (layout-by-word _ _ (one-n if2) (one-m (if1 if2)) _ (size if2))
 
 pub same-layout-spec : {M : Type 1} → statement M
 same-layout-spec =

@@ -1,16 +1,16 @@
 -- For the functions inside: no public contract cites this file.
---     HoldsWord size r word    the bytes r have a word of so many numbers, and the array has room for it
---     HoldNumbers at count r s the bytes r and s each have so many numbers from an index on
---     HoldsWords size r s      the bytes r and s each have a word of so many numbers
---     Comparable, Compares     a record whose word fits, and two records whose layouts may be compared
---     headerOf r               the fields of the record r, or the first fault up to the filling
---     readingOf h r            the reading of the record r that an answer stands for
---     Within, HasRecord        so many records, or one of them, inside the lent bytes
---     Seeks                    records, and one whose layout is looked for among them
---     Puts, PutsWord, Writes   a number, a word or a whole record that an array has room for
---     Made                     the record made of a die and a map
---     nextAnswer               13, 14 and 16 to 18, of a die and a layout
---     Copies                   a record, and room for it in a drawer
+--     HoldsWord size r word      the bytes r have a word of so many numbers, and the array has room for it
+--     HoldNumbers at count r s   the bytes r and s each have so many numbers from an index on
+--     HoldsWords size r s        the bytes r and s each have a word of so many numbers
+--     Comparable, Compares       a record whose word fits, and two records whose layouts may be compared
+--     headerOf r                 the fields of the record r, or the first fault up to the filling
+--     readingOf h r              the reading of the record r that an answer stands for
+--     Within, HasRecord          so many records, or one of them, inside the lent bytes
+--     Seeks                      records, and one whose layout is looked for among them
+--     Puts, PutsWord, Writes     a number, a word or a whole record that an array has room for
+--     Made                       the record made of a die and a map
+--     nextAnswer                 13, 14 and 16 to 18, of a die and a layout
+--     Copies                     a record, and room for it in a drawer
 -- Assumes nothing.
 use Prim.Native.Nat.{ℕ, _+_, _*_, _≤_}
 use mathlib.Core.Path.{_≡_}

@@ -31,7 +31,8 @@ use Rattle.maps.proofs.Verdict.{inOrder-passed, inOrder-first, unless-passed, u
 use Rattle.drawer.specs.Record as records
 use Rattle.drawer.specs.Record.{Filed, recordSize, filedIn, readRecord}
 use Rattle.drawer.specs.Drawer.{drawer, mostRecords, recordAt, entryAt, isBad, hasDie, hasLayout, repeats, badRecord, judgeCount, judgeRecords, drawerAnswer, recordOf, recordOfDie}
-use Rattle.drawer.specs.Inside.{readingOf, Within, HasRecord}
+use Rattle.drawer.specs.Answers.{readingOf}
+use Rattle.drawer.specs.Inside.{Within, HasRecord}
 use Rattle.drawer.specs.declared.fields.Reading.{Reading}
 use Rattle.drawer.specs.declared.fields.Reading.the-variants.{Layout, WrongDimension, WrongSize, NoDie, WrongZeroByte, WrongFilling, NoMap, OtherWord}
 use Rattle.drawer.proofs.Reading.{sound-good, good-sound}

@@ -4,7 +4,8 @@
 --     allZero-past, allZero-here       a list of zeros, from an index on
 --     numbers-suc                      one number more
 --     Copying                          a word under way into an array
---     header-reads                     a record's reading is what its header leaves of it: the word, or the header's fault
+--     header-reads                     a record's reading is what its header leaves of it: the table, or the header's fault
+--     table-fault, record-fault        so a fault of the header goes straight back
 --     header-low, .. header-whole      a header, by the tests that led to it
 --     header-known                     what a header with its fields says of its record: `Known`
 --     sameFrom, same-..                two lists of numbers are the same from an index on
@@ -24,15 +25,18 @@ use native.Mathlib.Numerals.{add-one}
 use borrow.Author.Tests.{eq-eqb, ne-eqb, le-leb, lt-leb}
 use lib.Dec.{eqb, leb}
 use lib.Seq.{drop-cons, drop-drop, set-at, take-at, append-snoc}
-use lib.ListN.{length, getD, set, take, drop, drop-of-length-le, length-append, length-drop}
+use lib.ListN.{length, getD, set, take, drop, drop-of-length-le, length-append, length-drop, length-set}
 use Rattle.maps.specs.Least.{nth}
 use Rattle.maps.specs.Accepted.{InBounds}
 use Rattle.maps.specs.Given.{Given, lent, mapOf, Shaped}
 use Rattle.maps.specs.Verdict.{Verdict, refused, accepts}
 use Rattle.maps.specs.Rules.{judgeDimension, judgeSize}
+use Rattle.maps.specs.Answer.{judgedOf}
+use Rattle.maps.specs.declared.Judged.the-variants as judged
+use Rattle.maps.proofs.Answer.{refused-accepts, refused-is}
 use Rattle.maps.proofs.Least.{true-not-false}
 use Rattle.maps.proofs.Verdict.{unless-accepts}
-use Rattle.labels.specs.Judging.{judgeMap}
+use Rattle.labels.specs.Judging.{judgeMap, checkAnswer}
 use Rattle.labels.proofs.Judging.{shaped-map}
 use Rattle.words.specs.Words.{same, signature}
 use Rattle.words.specs.Own.{ownAnswer}
@@ -40,7 +44,8 @@ use Rattle.words.specs.declared.own_signature.Own.{Own}
 use Rattle.words.specs.declared.own_signature.Own.the-variants as own
 use Rattle.drawer.specs.Record as records
 use Rattle.drawer.specs.Record.{Fault, bad, good, no-map, other-word, fromBytes, numbers, filedIn, zeroByteIn, fillingIn, allZero, sameLayout, provided, readTable, asSigned, readRecord}
-use Rattle.drawer.specs.Inside.{headerOf, readingOf}
+use Rattle.drawer.specs.Answers.{readingOf}
+use Rattle.drawer.specs.Inside.{headerOf}
 use Rattle.drawer.specs.declared.fields.Reading.{Reading}
 use Rattle.drawer.specs.declared.fields.Reading.the-variants.{Layout, WrongDimension, WrongSize, NoDie, WrongZeroByte, WrongFilling, NoMap, OtherWord}
 use Rattle.drawer.proofs.fields.Reading.{the-type}
@@ -88,17 +93,19 @@ numbers-suc (suc k) bs =
 -- the first i numbers are copied, and what stands behind them is as it was
 pub record Copying (bs word₀ word : List ℕ) (size i : ℕ) : Type 0 where
   pub high : i ≤ size
+  pub same-long : length word ≡ length word₀
   pub so-far : word ≡ numbers i (drop 8 bs) ++ drop i word₀
 
 pub copying-start : (bs word : List ℕ) (size : ℕ) → Copying bs word word size 0
 unfolding numbers
-copying-start bs word size = record { high = omega arith; so-far = refl }
+copying-start bs word size = record { high = omega arith; same-long = refl; so-far = refl }
 
 pub copying-turn : {bs word₀ word : List ℕ} {size i : ℕ} (x : ℕ) → Copying bs word₀ word size i → i < size → size ≤ length word₀ →
     x ≡ fromBytes (take 2 (drop (8 + 2 * i) bs)) → Copying bs word₀ (set word i x) size (i + 1)
 copying-turn {bs} {word₀} {word} {size} {i} x s turn room is =
     record {
       high = omega arith;
+      same-long = length-set word i x ∙ s .same-long;
       so-far =
           rw (s .so-far, drop-cons word₀ i 0 (omega arith))
           (set-at (numbers i (drop 8 bs)) (getD word₀ i 0) (drop (suc i) word₀) x i (length-numbers i (drop 8 bs))
@@ -131,23 +138,35 @@ other-fault WrongFilling key = refl
 other-fault (NoMap number place) key = refl
 other-fault OtherWord key = refl
 
+-- a fault is not changed by the judging of the word, which it comes before
+fault-signed : (h : Reading) (r : List ℕ) → isLayout h ≡ false → asSigned (readingOf h r) ≡ readingOf h r
+unfolding isLayout readingOf asSigned
+fault-signed (Layout die n m) r e = absurd (true-not-false refl e)
+fault-signed WrongDimension r e = refl
+fault-signed WrongSize r e = refl
+fault-signed NoDie r e = refl
+fault-signed WrongZeroByte r e = refl
+fault-signed WrongFilling r e = refl
+fault-signed (NoMap number place) r e = refl
+fault-signed OtherWord r e = refl
+
 module _ (r : List ℕ) where
-  -- what is left to be read where the header has its fields: the word
-  abbrev pub wordRead : records.Reading
-  wordRead = let v = judgeMap (mapOf (filedIn r .layout)) in asSigned (provided (accepts v) (no-map v) (good (filedIn r)))
+  -- what is left to be read where the header has its fields: the table
+  abbrev pub tableRead : records.Reading
+  tableRead = let v = judgeMap (mapOf (filedIn r .layout)) in provided (accepts v) (no-map v) (good (filedIn r))
 
   -- what a header leaves of the reading
   abbrev left : Reading → records.Reading
-  left h = cond (isLayout h) wordRead (readingOf h r)
+  left h = cond (isLayout h) tableRead (readingOf h r)
 
-  provided-header : (b : Bool) (f : Fault) (rest : records.Reading) (h wrong : Reading) → asSigned rest ≡ left h → bad f ≡ left wrong →
-      asSigned (provided b f rest) ≡ left (cond b h wrong)
-  unfolding provided asSigned
+  provided-header : (b : Bool) (f : Fault) (rest : records.Reading) (h wrong : Reading) → rest ≡ left h → bad f ≡ left wrong →
+      provided b f rest ≡ left (cond b h wrong)
+  unfolding provided
   provided-header true f rest h wrong on off = on
   provided-header false f rest h wrong on off = off
 
-  pub header-reads : readRecord r ≡ left (headerOf r)
-  unfolding readRecord readTable headerOf readingOf isLayout asSigned
+  pub header-reads : readTable r ≡ left (headerOf r)
+  unfolding readTable headerOf readingOf isLayout
   header-reads =
       provided-header _ _ _ _ _
       (provided-header _ _ _ _ _
@@ -160,8 +179,17 @@ module _ (r : List ℕ) where
       refl
 
   -- a fault of the header is the reading
-  pub header-fault : (h : Reading) → h ≡ headerOf r → isLayout h ≡ false → readingOf h r ≡ readRecord r
-  header-fault h is e = sym (header-reads ∙ ap left (sym is) ∙ simp e)
+  module _ (h : Reading) (is : h ≡ headerOf r) where
+    pub table-fault : isLayout h ≡ false → readingOf h r ≡ readTable r
+    table-fault e = sym (header-reads ∙ ap left (sym is) ∙ simp e)
+
+    pub record-fault : isLayout h ≡ false → readingOf h r ≡ readRecord r
+    unfolding readRecord
+    record-fault e = sym (fault-signed h r e) ∙ ap asSigned (table-fault e)
+
+  pub header-whole-reads : (die n m : ℕ) → Layout die n m ≡ headerOf r → readTable r ≡ tableRead
+  unfolding isLayout
+  header-whole-reads die n m is = header-reads ∙ ap left (sym is)
 
 -- the tests of 1 and 2, case by case
 module _ (l : Given) where
@@ -388,20 +416,51 @@ module _ (r : List ℕ) where
   own-cases v true = signed-cases (same (layout .table) (signature (mapOf layout)))
   own-cases v false = refl
 
-  own-read : Shaped layout → readingOf (wordTold (filedIn r .die) (layout .n) (layout .m) (ownAnswer layout)) r ≡ wordRead r
+  own-read : Shaped layout → readingOf (wordTold (filedIn r .die) (layout .n) (layout .m) (ownAnswer layout)) r ≡ asSigned (tableRead r)
   unfolding ownAnswer
   own-read shaped = rw (shaped-map layout shaped) (own-cases (judgeMap (mapOf layout)) (accepts (judgeMap (mapOf layout))))
 
-  -- the answer on a word that was copied from the record decides its reading
-  pub word-reads : (die n m : ℕ) (w : List ℕ) (o : Own) → Layout die n m ≡ headerOf r → w ≡ layout .table → o ≡ ownAnswer (lent n m w) →
-      readingOf (wordTold die n m o) r ≡ readRecord r
-  unfolding isLayout
-  word-reads die n m w o is copied told =
-      let k = header-known r die n m (sym is) in
-      let whole : Shaped layout = record { bounds = rw (k .is-n, k .is-m) at (k .bounds); long = length-table r } in
-      let same-layout : lent n m w ≡ layout = λ i. lent (k .is-n i) (k .is-m i) (copied i) in
-      rw (told, same-layout, k .is-die, k .is-n, k .is-m) (own-read whole)
-      ∙ sym (header-reads r ∙ ap (left r) (sym is))
+  -- the same by the plain check alone
+  check-cases : (v : Verdict) (b : Bool) →
+      readingOf (cond b (Layout (filedIn r .die) (layout .n) (layout .m)) (NoMap (v .number) (v .place))) r ≡ provided b (no-map v) (good (filedIn r))
+  unfolding readingOf provided filedIn refused
+  check-cases v true = refl
+  check-cases v false = refl
+
+  -- the header and the word that was copied from the record decide its reading
+  module _ (die n m : ℕ) (is : Layout die n m ≡ headerOf r) (w : List ℕ) (copied : w ≡ layout .table) where
+    header-says : Known r die n m
+    header-says = header-known r die n m (sym is)
+
+    whole : Shaped layout
+    whole = record { bounds = rw (header-says .is-n, header-says .is-m) at (header-says .bounds); long = length-table r }
+
+    lent-is : lent n m w ≡ layout
+    lent-is = λ i. lent (header-says .is-n i) (header-says .is-m i) (copied i)
+
+    pub word-reads : (o : Own) → o ≡ ownAnswer (lent n m w) → readingOf (wordTold die n m o) r ≡ readRecord r
+    unfolding readRecord
+    word-reads o told =
+        rw (told, lent-is, header-says .is-die, header-says .is-n, header-says .is-m) (own-read whole)
+        ∙ ap asSigned (sym (header-whole-reads r die n m is))
+
+    -- the plain check's answer
+    check-is : checkAnswer (lent n m w) ≡ judgeMap (mapOf layout)
+    check-is = ap checkAnswer lent-is ∙ shaped-map layout whole
+
+    pub check-passed : accepts (checkAnswer (lent n m w)) ≡ true → readingOf (Layout die n m) r ≡ readTable r
+    check-passed takes =
+        let v = judgeMap (mapOf layout) in
+        let here : readingOf (Layout die n m) r ≡ provided true (no-map v) (good (filedIn r)) = rw (header-says .is-die, header-says .is-n, header-says .is-m) (check-cases v true) in
+        here ∙ sym (header-whole-reads r die n m is ∙ ap (λ (b : Bool). provided b (no-map v) (good (filedIn r))) (sym (ap accepts check-is) ∙ takes))
+
+    pub check-refused : (k p : ℕ) → judged.Refused k p ≡ judgedOf (checkAnswer (lent n m w)) → readingOf (NoMap k p) r ≡ readTable r
+    unfolding refused
+    check-refused k p told =
+        let v = judgeMap (mapOf layout) in
+        let v-is : v ≡ refused k p = sym check-is ∙ refused-is _ k p told in
+        let here : readingOf (NoMap k p) r ≡ provided false (no-map v) (good (filedIn r)) = rw v-is (check-cases (refused k p) false) in
+        here ∙ sym (header-whole-reads r die n m is ∙ ap (λ (b : Bool). provided b (no-map v) (good (filedIn r))) (sym (ap accepts check-is) ∙ refused-accepts _ k p told))
 
 -- two layouts, by what is read of them
 module _ (r s : List ℕ) where

@@ -1,6 +1,7 @@
 -- What reading a record finds (`specs/Record.antt`): a filed layout exactly where the record is sound.
 --     Sound                        what document 01 asks of one record's bytes
 --     sound-good, good-sound       the reading is the filed layout exactly where they are so
+--     table-good                   a record that reads as a filed layout holds an accepted map
 --     filing-fits                  a record has room for a signature, with a die of 4 bytes
 --     signed-sound                 and its bytes are sound
 --     sameLayout-equal, equal-sameLayout
@@ -119,6 +120,27 @@ module _ (r : List ℕ) where
         of-map = accepts-map (mapOf l) (accept-bounds l (dim .0) (size .0)) (of-map .0);
         signed = same-equal (l .table) (signature (mapOf l)) (provided-last (filedIn r) (of-map .1));
       }
+
+-- the same of a record that may hold any accepted map
+table-on : (b : Bool) (f : Fault) (rest : Reading) → isBad (provided b f rest) ≡ false → (b ≡ true) × (isBad rest ≡ false)
+unfolding isBad provided
+table-on true f rest e = (refl, e)
+table-on false f rest e = absurd (true-not-false refl e)
+
+pub table-good : (r : List ℕ) → isBad (readTable r) ≡ false → Accepted (mapOf (filedIn r .layout)) × (readTable r ≡ good (filedIn r))
+unfolding readTable provided mapOf
+table-good r e =
+    let l : Given = filedIn r .layout in
+    let dim = table-on _ _ _ e in
+    let size = table-on _ _ _ (dim .1) in
+    let die = table-on _ _ _ (size .1) in
+    let byte = table-on _ _ _ (die .1) in
+    let fill = table-on _ _ _ (byte .1) in
+    let of-map = table-on _ _ _ (fill .1) in
+    let some-die : leb 1 (filedIn r .die) ≡ true = die .0 in
+    let zero-byte : eqb (zeroByteIn r) 0 ≡ true = byte .0 in
+    let zeros : allZero (fillingIn r) ≡ true = fill .0 in
+    (accepts-map (mapOf l) (accept-bounds l (dim .0) (size .0)) (of-map .0), simp (dim .0, size .0, some-die, zero-byte, zeros, of-map .0))
 
 -- a sound record is read as what it says
 pub sound-reads : {r : List ℕ} → Sound r → isBad (readRecord r) ≡ false

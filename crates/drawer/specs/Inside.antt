@@ -1,10 +1,9 @@
 -- For the functions inside: no public contract cites this file.
---     HoldsWord size r word      the bytes r have a word of so many numbers, and the array has room for it
+--     HoldsWord size r word      the bytes r have a word of so many numbers, and the list has room for it
 --     HoldNumbers at count r s   the bytes r and s each have so many numbers from an index on
 --     HoldsWords size r s        the bytes r and s each have a word of so many numbers
 --     Comparable, Compares       a record whose word fits, and two records whose layouts may be compared
 --     headerOf r                 the fields of the record r, or the first fault up to the filling
---     readingOf h r              the reading of the record r that an answer stands for
 --     Within, HasRecord          so many records, or one of them, inside the lent bytes
 --     Seeks                      records, and one whose layout is looked for among them
 --     Puts, PutsWord, Writes     a number, a word or a whole record that an array has room for
@@ -17,25 +16,24 @@ use mathlib.Core.Path.{_≡_}
 use mathlib.Core.Bool.{true, cond, _&&_}
 use mathlib.Core.List.{List, [], _∷_}
 use lib.Dec.{eqb, leb}
-use lib.ListN.{length, drop, replicate}
-use Rattle.maps.specs.Given.{Given, lent, mapOf}
+use lib.ListN.{length, replicate}
+use Rattle.maps.specs.Given.{Given}
 use Rattle.maps.specs.Accepted.{InBounds}
-use Rattle.maps.specs.Verdict.{Verdict, refused, accepts, unless, atLeast, inOrder}
+use Rattle.maps.specs.Verdict.{Verdict, accepts, unless, atLeast, inOrder}
 use Rattle.maps.specs.Answer.{judgedOf}
 use Rattle.maps.specs.declared.Judged.{Judged}
 use Rattle.maps.specs.Rules.{judgeDimension, judgeSize}
-use Rattle.labels.specs.Judging.{judgeMap, checkAnswer}
-use Rattle.drawer.specs.Record as records
-use Rattle.drawer.specs.Record.{good, bad, wrong-dimension, wrong-size, no-die, zero-byte, filling, no-map, other-word, numbers, recordSize, recordBytes, filedIn, zeroByteIn, fillingIn, allZero, provided}
+use Rattle.labels.specs.Judging.{checkAnswer}
+use Rattle.drawer.specs.Record.{recordSize, recordBytes, filedIn, zeroByteIn, fillingIn, allZero}
 use Rattle.drawer.specs.Drawer.{Drawer, mostRecords, drawerAnswer, layoutOf, recordOf, recordOfDie}
 use Rattle.drawer.specs.declared.fields.Reading.{Reading}
-use Rattle.drawer.specs.declared.fields.Reading.the-variants.{Layout, WrongDimension, WrongSize, NoDie, WrongZeroByte, WrongFilling, NoMap, OtherWord}
+use Rattle.drawer.specs.declared.fields.Reading.the-variants.{Layout, WrongDimension, WrongSize, NoDie, WrongZeroByte, WrongFilling}
 
--- the bytes r have a word of so many numbers after the first eight bytes, and the array has room for it
+-- the bytes r have a word of so many numbers after the first eight bytes, and the list has room for it
 pub record HoldsWord (size : ℕ) (r word : List ℕ) : Type 0 where
   pub few : size ≤ 1020
   pub long : 8 + 2 * size ≤ length r
-  pub room : length word ≡ 1020
+  pub room : size ≤ length word
 
 -- the bytes r and s each have so many numbers from an index on
 pub record HoldNumbers (at count : ℕ) (r s : List ℕ) : Type 0 where
@@ -76,17 +74,6 @@ headerOf r =
     NoDie)
     WrongSize)
     WrongDimension
-
--- the reading that an answer of `src/` stands for, of the record r, where the word stays
-unfoldable pub readingOf : Reading → List ℕ → records.Reading
-readingOf (Layout die n m) r = good (record { die = die; layout = lent n m (numbers (n * m) (drop 8 r)) })
-readingOf WrongDimension r = bad wrong-dimension
-readingOf WrongSize r = bad wrong-size
-readingOf NoDie r = bad no-die
-readingOf WrongZeroByte r = bad zero-byte
-readingOf WrongFilling r = bad filling
-readingOf (NoMap number place) r = bad (no-map (refused number place))
-readingOf OtherWord r = bad other-word
 
 -- so many records of 2,048 bytes lie inside the bytes
 pub record Within (count : ℕ) (bytes : List ℕ) : Type 0 where

@@ -6,11 +6,12 @@ ghost use Prim.Native.Nat.{_+_, _≤_, _<_};
 ghost use lib.ListN.{length, take, drop};
 ghost use Rattle.words.specs.Words.{same};
 ghost use Rattle.drawer.specs.Record.{fromBytes, numbers, allZero, recordSize, filedIn, sameLayout, readRecord};
-ghost use Rattle.drawer.specs.Inside.{HoldsWord, HoldNumbers, HoldsWords, Compares, headerOf, readingOf};
+ghost use Rattle.drawer.specs.Answers.{readingOf};
+ghost use Rattle.drawer.specs.Inside.{HoldsWord, HoldNumbers, HoldsWords, Compares, headerOf};
 use words::Own;
 
 // What reading a record finds: a filed layout, whose word stays where it stands, or the first of the record's faults.
-pub(crate) enum Reading {
+pub enum Reading {
     Layout { die: u32, n: usize, m: usize },
     WrongDimension,
     WrongSize,
@@ -69,8 +70,8 @@ fn filling_is_zero(bytes: &[u8], from: usize) -> bool
     zero
 }
 
-// The word is copied to the front of an array, whose rest is left as it was.
-pub(crate) fn read_word(bytes: &[u8], size: usize, word: &mut [u16; 1020])
+// The word is copied to the front of a list, whose rest is left as it was.
+pub(crate) fn read_word(bytes: &[u8], size: usize, word: &mut [u16])
     requires { ⌜ HoldsWord size (now bytes) (now word) ⌝ }
     ensures { λ _. ⌜ now (word .exit) ≡ numbers size (drop 8 (now (bytes .entry))) ++ drop size (now (word .entry)) ⌝ }
 {

@@ -3,11 +3,15 @@ mod check;
 mod fields;
 mod file;
 mod search;
+mod table;
 mod write;
 
 pub use check::check_drawer;
+pub use fields::Reading;
 pub use file::Filing;
 pub use file::file_layout;
 pub use search::Search;
 pub use search::found;
 pub use search::search_drawer;
+pub use table::Entry;
+pub use table::read_table;

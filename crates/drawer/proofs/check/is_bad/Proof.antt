@@ -6,7 +6,8 @@ use borrow.Author.Needs.{needs}
 use native.Mathlib.Omega.{arith}
 use Rattle.drawer.specs.Record.{filedIn, readRecord}
 use Rattle.drawer.specs.Drawer.{drawer, recordAt, recordOf}
-use Rattle.drawer.specs.Inside.{readingOf, Within, Comparable}
+use Rattle.drawer.specs.Answers.{readingOf}
+use Rattle.drawer.specs.Inside.{Within, Comparable}
 use Rattle.drawer.specs.declared.fields.Reading.{Reading}
 use Rattle.drawer.specs.declared.fields.Reading.the-variants.{Layout}
 use Rattle.drawer.proofs.Inside.{other-fault}

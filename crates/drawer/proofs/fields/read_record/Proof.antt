@@ -9,8 +9,8 @@ use lib.Seq.{length-take-le}
 use lib.ListN.{length, length-replicate}
 use Rattle.words.specs.declared.own_signature.Own.{Own}
 use Rattle.drawer.specs.Record.{recordSize, readRecord}
-use Rattle.drawer.specs.Inside.{readingOf}
-use Rattle.drawer.proofs.Inside.{Known, header-known, header-fault, other-fault, copied-table, copied-long, wordTold, word-reads}
+use Rattle.drawer.specs.Answers.{readingOf}
+use Rattle.drawer.proofs.Inside.{Known, header-known, record-fault, other-fault, copied-table, copied-long, wordTold, word-reads}
 use Rattle.drawer.proofs.fields.read_record.Statement.{statement}
 use Rattle.drawer.proofs.fields.read_record.Tie as tie
 
@@ -22,7 +22,7 @@ abbrev fields : tie.After-read-word → tie.After-header
 fields c = c .before .before .before
 
 abbrev copied : tie.After-own-word → tie.After-read-word
-copied c = c .before .before
+copied c = c .before .before .before
 
 -- the record, and the numbers that its header says
 abbrev bytes-of : tie.After-header → List ℕ
@@ -43,7 +43,7 @@ word-long : (c : tie.After-read-word) → length (c .read-word .last .1 .1 .0) �
 word-long c = copied-long _ _ _ _ (c .read-word .ensures) (few (fields c))
 
 returns : tie.Need-returns
-returns c = header-fault _ _ (c .before .read-header .ensures) (other-fault _ (c .match .keys2))
+returns c = record-fault _ _ (c .before .read-header .ensures) (other-fault _ (c .match .keys2))
 
 read-word-requires : tie.Need-read-word-requires
 unfolding recordSize
@@ -52,7 +52,7 @@ read-word-requires c κs =
     record {
       few = few f;
       long = omega (arith, few f, header f .before .before .pre);
-      room = length-replicate {A = ℕ} 1020 0;
+      room = few f;
     }
 
 -- what the answer on the word says of the record
@@ -64,9 +64,11 @@ told c o is =
     let w = copied c in
     let h = fields w in
     let k = known h in
-    word-reads _ _ _ _ _ o
+    word-reads _ _ _ _
     (sym (h .header .given .1) ∙ header h .read-header .ensures)
+    _
     (copied-table _ _ _ _ (w .read-word .ensures) (ap₂ _*_ (k .is-n) (k .is-m)))
+    o
     (sym is ∙ c .own-word .ensures)
 
 returns-2 : tie.Need-returns-2
@@ -89,9 +91,10 @@ read-record-spec =
     (λ c. search needs)
     returns
     (λ c. omega (arith, few (c .before)))
+    (λ c. search needs)
     read-word-requires
-    (λ c. omega (arith, few (fields c), word-long c))
-    (λ c. sym (length-take-le _ _ (omega (arith, few (fields (c .before)), word-long (c .before)))))
+    (λ c. omega (arith, few (fields (c .before)), word-long (c .before)))
+    (λ c. sym (length-take-le _ _ (omega (arith, few (fields (c .before .before)), word-long (c .before .before)))))
     (λ c κs. search needs)
     (λ c. search needs)
     (λ c. search needs)

@@ -35,4 +35,5 @@ read-word-spec =
     (λ c. omega arith)
     (λ c. omega arith)
     loop-again
+    (λ c. c .before .loop .inv .same-long)
     returns)

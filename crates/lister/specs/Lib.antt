@@ -1,2 +1,4 @@
--- The layout lister: what it prints.
+-- What the lister prints. Read in this order.
 pub mod Listing
+pub mod Answer
+pub mod Inside

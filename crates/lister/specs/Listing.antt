@@ -3,6 +3,8 @@
 --     spaced ws          words with one space between, and a newline
 --     shownFault k f     the number and place for the fault f of record k
 --     lineOf k r         the line for record k, whose bytes are r
+--     shortEnd k         what a short end of k bytes prints
+--     lineFrom k bytes   the line for bytes handed in as record k: a record's, or a short end's
 --     listing bytes      the whole output
 --     shownReading       the number and place for a reading
 --     recordLines        the lines of the display's table for one record, and `RecordShows` what they say
@@ -12,8 +14,8 @@ use mathlib.Core.Path.{_≡_}
 use mathlib.Core.Bool.{false, cond}
 use mathlib.Core.Logic.{_⊎_}
 use mathlib.Core.List.{List, [], _∷_, _++_}
-use lib.Dec.{eqb, ltb}
-use lib.ListN.{length, drop}
+use lib.Dec.{eqb, ltb, leb}
+use lib.ListN.{length, take, drop}
 use Rattle.maps.specs.Given.{mapOf}
 use Rattle.maps.specs.Verdict.{Verdict, accepted, refused}
 use Rattle.maps.specs.Lines.{Line, Shows, plain, mapLines}
@@ -82,6 +84,10 @@ linesTo (suc k) bytes = linesTo k bytes ++ lineOf (suc k) (recordAt bytes (suc k
 -- "A short end of k bytes prints `short k`"
 unfoldable pub shortEnd : ℕ → List ℕ
 shortEnd k = cond (eqb k 0) [] (spaced (shortWord ∷ decimal k ∷ []))
+
+-- the line for bytes handed in as record k, of which no more than a record's are read
+unfoldable pub lineFrom : ℕ → List ℕ → List ℕ
+lineFrom k bytes = cond (leb recordSize (length bytes)) (lineOf k (take recordSize bytes)) (shortEnd (length bytes))
 
 unfoldable pub listing : List ℕ → List ℕ
 listing bytes = linesTo (length bytes / recordSize) bytes ++ shortEnd (length bytes % recordSize)

@@ -1,37 +1,28 @@
+-- `lister::line_from` meets its contract: a short end, or the record at the front of the bytes. Assumes nothing.
+use mathlib.Core.Path.{sym}
 use borrow.Author.Needs.{needs}
+use lib.Seq.{length-take-le}
+use Rattle.drawer.specs.Record.{recordSize}
+use Rattle.lister.proofs.Listed.{same-line, from-short, from-record}
 use Rattle.lister.proofs.line_from.Statement.{statement}
 use Rattle.lister.proofs.line_from.Tie as tie
-use Rattle.lister.proofs.line_from.Reads as reads
-use Rattle.lister.proofs.line_from.Lts as lts
-use Rattle.lister.proofs.record_line.Reads as record-line-reads
-use Rattle.lister.proofs.short_line.Reads as short-line-reads
 
--- src/lib.rt:179:9
-short-line-requires : tie.Need-short-line-requires
-short-line-requires c κs = search needs
-
--- src/lib.rt:179:9
 returns : tie.Need-returns
-returns c = ?
+returns c = same-line _ _ _ (from-short _ _ (c .before .if1 .taken)) (c .short-line .ensures)
 
--- src/lib.rt:181:25
-slice-aggregate-record-line : tie.Need-slice-aggregate-record-line
-slice-aggregate-record-line c = ?
-
--- src/lib.rt:181:5
 record-line-requires : tie.Need-record-line-requires
-record-line-requires c κs = ?
+unfolding recordSize
+record-line-requires c κs = length-take-le 2048 (c .before .before .before .args .bytes .now) (c .before .if1 .left)
 
--- src/lib.rt:175:1
 returns-2 : tie.Need-returns-2
-returns-2 c = ?
+returns-2 c = same-line _ _ _ (from-record _ _ (c .before .before .if1 .left)) (c .record-line .ensures)
 
 pub line-from-spec : {M : Type 1} → statement M
 line-from-spec =
     tie.close
     (tie.spec
-    short-line-requires
+    (λ c κs. search needs)
     returns
-    slice-aggregate-record-line
+    (λ c. sym (length-take-le 2048 (c .before .before .before .args .bytes .now) (c .before .if1 .left)))
     record-line-requires
     returns-2)

@@ -1,94 +1,92 @@
+-- `lister::record_line` meets its contract: a fault has its line, and a layout that of its table. Assumes nothing.
+use Prim.Native.Nat.{ℕ, _*_, _≤_}
+use mathlib.Core.Path.{_≡_, sym, _∙_}
+use mathlib.Core.List.{List}
 use borrow.Author.Needs.{needs}
+use native.Mathlib.Omega.{arith}
+use lib.Seq.{length-take-le}
+use lib.ListN.{length, replicate, length-replicate}
+use Rattle.drawer.specs.Answers.{entryOf}
+use Rattle.drawer.specs.declared.table.Entry.the-variants as entry
+use Rattle.drawer.proofs.Inside.{other-fault}
+use Rattle.lister.proofs.Listed.{same-line, fault-listed, read-taken, entry-says, layout-small, after-long, layout-takes, layout-line}
 use Rattle.lister.proofs.record_line.Statement.{statement}
 use Rattle.lister.proofs.record_line.Tie as tie
-use Rattle.lister.proofs.record_line.Reads as reads
-use Rattle.lister.proofs.record_line.Lts as lts
-use Rattle.drawer.proofs.read_table.Reads as read-table-reads
-use Rattle.lister.proofs.fault_line.Reads as fault-line-reads
-use Rattle.lister.proofs.short_line.Reads as short-line-reads
-use Rattle.lister.proofs.table_line.Reads as table-line-reads
 
--- src/lib.rt:163:43
-slice-aggregate-read-table : tie.Need-slice-aggregate-read-table
-slice-aggregate-read-table c = search needs
+-- the places of this proof
+abbrev read : tie.After-entry → tie.After-read-table
+read c = c .before .before .before
 
--- src/lib.rt:163:9
-read-table-requires : tie.Need-read-table-requires
-read-table-requires c κs = search needs
+abbrev start : tie.After-read-table → tie.Start
+start c = c .before .before .before
 
--- src/lib.rt:164:23
-enum-known-entry : tie.Need-enum-known-entry
-enum-known-entry c = search needs
+abbrev entry-of : tie.After-reading → tie.After-entry
+entry-of c = c .before .before .before
 
--- src/lib.rt:165:9
-enum-told : tie.Need-enum-told
-enum-told c = search needs
-
--- src/lib.rt:165:9
-short-line-requires : tie.Need-short-line-requires
-short-line-requires c κs = search needs
-
--- src/lib.rt:165:9
+-- bytes that are not read are shut out
 returns : tie.Need-returns
-returns c = ?
+returns c =
+    let told = c .before in
+    let r = told .before .before .before in
+    absurd (read-taken _ _ (start r .pre) (omega arith) (sym (told .enum-told .given .1) ∙ r .read-table .ensures .answer))
 
--- src/lib.rt:167:27
-enum-known-reading : tie.Need-enum-known-reading
-enum-known-reading c = search needs
-
--- src/lib.rt:168:35
-cast-fault-line : tie.Need-cast-fault-line
-cast-fault-line c = search needs
-
--- src/lib.rt:168:9
-fault-line-requires : tie.Need-fault-line-requires
-fault-line-requires c κs = search needs
-
--- src/lib.rt:168:9
 returns-2 : tie.Need-returns-2
-returns-2 c = ?
+returns-2 c =
+    let key = c .before in
+    let e = key .before .before in
+    let r = read e in
+    let says = entry-says _ _ (start r .pre) (omega arith) _ _ (sym (e .entry .given .1) ∙ r .read-table .ensures .answer) in
+    same-line _ _ _ (fault-listed _ _ _ _ (says .0) (says .1) (other-fault _ (key .match2 .keys2))) (c .fault-line .ensures)
 
--- src/lib.rt:170:16
-mul-size : tie.Need-mul-size
-mul-size c = ?
+-- the answer that was read, and the table that it left
+read-is : (c : tie.After-entry) → entry.Read (c .entry .given .0 .0) (c .entry .given .0 .1 .0) ≡ entryOf (start (read c) .args .bytes .now) (replicate 1020 0)
+read-is c = sym (c .entry .given .1) ∙ read c .read-table .ensures .answer
 
--- src/lib.rt:171:16
-cast-table-line : tie.Need-cast-table-line
-cast-table-line c = search needs
+abbrev left : tie.After-entry → List ℕ
+left c = read c .read-table .last .1 .0
 
--- src/lib.rt:171:36
-array-share-prefix-table : tie.Need-array-share-prefix-table
-array-share-prefix-table c = ?
+small : (c : tie.After-reading) → c .reading .given .0 .1 .0 * c .reading .given .0 .1 .1 .0 ≤ 1020
+small c =
+    let e = entry-of c in
+    layout-small _ (replicate 1020 0) (start (read e) .pre) (omega arith) _ _ (read-is e) _ _ _ (c .reading .given .1) (left e) (read e .read-table .ensures .written)
 
--- src/lib.rt:171:36
-slice-aggregate-table-line : tie.Need-slice-aggregate-table-line
-slice-aggregate-table-line c = ?
+left-long : (c : tie.After-reading) → length (left (entry-of c)) ≡ 1020
+left-long c =
+    let e = entry-of c in
+    after-long _ (replicate 1020 0) (start (read e) .pre) (omega arith) _ _ (read-is e) _ _ _ (c .reading .given .1) (left e) (read e .read-table .ensures .written)
+    ∙ length-replicate {A = ℕ} 1020 0
 
--- src/lib.rt:171:5
 table-line-requires : tie.Need-table-line-requires
-table-line-requires c κs = ?
+table-line-requires c κs =
+    let f = c .before .before in
+    let e = entry-of f in
+    layout-takes _ (replicate 1020 0) (start (read e) .pre) (omega arith) _ _ (read-is e) _ _ _ (f .reading .given .1) (left e) (read e .read-table .ensures .written)
 
--- src/lib.rt:158:1
 returns-3 : tie.Need-returns-3
-returns-3 c = ?
+returns-3 c =
+    let f = c .before .before .before in
+    let e = entry-of f in
+    same-line _ _ _
+    (layout-line _ (replicate 1020 0) (start (read e) .pre) (omega arith) _ _ (read-is e) _ _ _ (f .reading .given .1) (left e) (read e .read-table .ensures .written) _)
+    (c .table-line .ensures)
 
 pub record-line-spec : {M : Type 1} → statement M
 record-line-spec =
     tie.close
     (tie.spec
-    slice-aggregate-read-table
-    read-table-requires
-    enum-known-entry
-    enum-told
-    short-line-requires
+    (λ c. search needs)
+    (λ c κs. search needs)
+    (λ c. search needs)
+    (λ c. search needs)
+    (λ c κs. search needs)
     returns
-    enum-known-reading
-    cast-fault-line
-    fault-line-requires
+    (λ c. search needs)
+    (λ c. search needs)
+    (λ c κs. search needs)
     returns-2
-    mul-size
-    cast-table-line
-    array-share-prefix-table
-    slice-aggregate-table-line
+    (λ c. omega (arith, small (c .before)))
+    (λ c. search needs)
+    (λ c. omega (arith, small (c .before), left-long (c .before)))
+    (λ c. sym (length-take-le _ _ (omega (arith, small (c .before .before), left-long (c .before .before)))))
     table-line-requires
     returns-3)

@@ -2,7 +2,6 @@
 // shows which dart is which, is told "not found" for a fourth, and shows two refusals.
 #include <stdbool.h>
 #include <stdio.h>
-#include <string.h>
 
 #include "display.h"
 #include "duftheim.h"

@@ -2,7 +2,6 @@
 // match, and a filing leaves the old drawer file or the new one, whatever happens.
 #include <stdbool.h>
 #include <stdio.h>
-#include <stdlib.h>
 #include <string.h>
 
 #include "display.h"

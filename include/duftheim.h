@@ -1,4 +1,4 @@
-/* The die reader's library, for the camera's program.
+/* The die reader's library, for the camera's program: libduftheim.a, made by ./build.
 
    A die's layout is a dart table: n numbers of 16 bits for each of its m darts. The darts are 1 to m, and 0 means "sewn to
    nothing". The i-th number of dart d, counted from 1, is the dart that d is i-sewn to; it stands at table[(d - 1) * n + i - 1].
@@ -10,51 +10,89 @@
    the end. No two records have the same die number or the same layout. Records count from 1. With the count 0 the drawer is
    empty, whatever its bytes are: what stands behind the counted records is never looked at.
 
-   No call keeps a pointer, allocates, or needs working room of yours. Pointers are never null, also for an empty buffer, and the
-   buffers of one call never overlap. Every call judges its input itself, whatever the numbers: what it cannot take it refuses
-   with a number and a place, and then every buffer is as it was. That the answers are right is proved, not tested. */
+   Every call judges its input itself, whatever the numbers: what it cannot take it refuses with a number and a place, and then
+   every buffer is as it was. Of you it asks that a pointer is never null, also of an empty buffer, that a buffer is as long as
+   its length says, that numbers of 16 bits stand at even addresses, and that the buffers of one call do not overlap.
+
+   What a call needs
+     Processor   x86-64 without extensions, with the System V calling convention (that of Linux): a size_t has 8 bytes. The code
+                 uses SSE2 registers and the 128 bytes below the stack pointer (the red zone), which interrupts must leave alone.
+     Stack       6 to 17 KB. All working room is on the stack; none is lent by you, and none allocated. The bytes for each call
+                 are DUFTHEIM_STACK_.. below.
+     To link     memcpy and memset, as the C library has them, and nothing else.
+     Variables   none. No call keeps a pointer or anything else, so calls may run at the same time on buffers of their own, and
+                 on shared ones that none of them writes.
+     Time        Every call returns; there is no bound in seconds. Instructions were counted: for a signature 5 thousand with 7
+                 darts, and 43 million for the slowest layout tried, a ring of 1,020 darts (n = 1); for a match at most 38
+                 million. Twice the darts cost up to four times as much. A drawer check judges every record, and so do search and
+                 filing each time: 89 million for 1,024 random layouts of 258 darts on the mean, but 13 billion for the slowest
+                 drawer tried, rings of 1 to 1,020 darts. docs/SPEED.md has all figures.
+     Answers     are handed back by value. The bytes between the members of a struct are not written: compare members.
+
+   That the answers are right is proved, not tested. The proof rests on the prover, the compiler and the processor, on memcpy and
+   memset, on what is asked of you, and on this header saying what crates/reader does. What is proved is what the definitions say
+   in the folders specs/ of crates/; docs/PROMISES.md leads there, sentence by sentence. */
 #ifndef DUFTHEIM_H
 #define DUFTHEIM_H
 
 #include <stddef.h>
 #include <stdint.h>
 
+/* The first number grows when a program that was right may no longer be, the second with new calls, the third with the rest. */
+#define DUFTHEIM_VERSION "1.0.0"
+#define DUFTHEIM_VERSION_MAJOR 1
+#define DUFTHEIM_VERSION_MINOR 0
+#define DUFTHEIM_VERSION_PATCH 0
+
+/* The stack that each call needs, in bytes, with its own return address. What memcpy and memset need beyond theirs comes on top,
+   and so does what an interrupt pushes. */
+#define DUFTHEIM_STACK_CHECK 6432
+#define DUFTHEIM_STACK_JUDGE 6464
+#define DUFTHEIM_STACK_MATCH 12640
+#define DUFTHEIM_STACK_SIGNATURE 12720
+#define DUFTHEIM_STACK_DRAWER_CHECK 12768
+#define DUFTHEIM_STACK_FILE 16912
+#define DUFTHEIM_STACK_SEARCH 16928
+
+/* Bytes of a record, and records of a full drawer. */
+#define DUFTHEIM_RECORD_SIZE 2048
+#define DUFTHEIM_MOST_RECORDS 1024
+
 #ifdef __cplusplus
 extern "C" {
 #endif
 
-/* What the display shows where a call refuses, and where: 0 in `number` means accepted, and then the place is 0. In a refused
-   answer every other number but the place is 0.
+/* What the display shows where a call refuses: an answer's `number`, and where it is wrong, its `place`. The place is the least
+   dart or record that is meant, and 0 where none is named. In a refused answer every other number is 0.
 
-     1  n is not 1 to 4                                       place 0
-     2  m is 0, or n * m is above 1,020                       place 0
-     3  the table has not n * m numbers                       place 0
-     4  the output is shorter than n * m; for the match, m    place 0
-     5  a number of the table is above m                      its dart
-     6  a dart is 1-sewn to what a lower dart is 1-sewn to    the dart
-     7  an i-sewing, i from 2, does not lead back             the dart
-     8  two sewings in turn, and again, do not lead back      the dart
-     9  a dart cannot be reached from dart 1                  the dart
-    10  the layouts differ in n or m, or have no matching     place 0
-    11  the list has not m numbers                            place 0
-        a number of the list is 0, above m or used before     its dart
-    12  the list does not keep a dart's sewings               the dart
-    13  the count is above 1,024, or the drawer is shorter
-        than its records                                      place 0
-    14  a record is not as described above, or has the die
-        number or the layout of an earlier one                the record
-    15  the layout is not filed                               place 0
-    16  the die number is 0                                   place 0
-        the die number is filed already                       its record
-    17  the layout is filed already                           its record
-    18  there are 1,024 records, or the drawer has no room
-        for one more                                          place 0
+   Of one layout the lowest number that applies is given. A call with two layouts judges the first, then the second, whose
+   numbers are DUFTHEIM_OF_SECOND higher, and after both come 10, 11 and 12. A call with a layout and a drawer judges the layout
+   first, then the drawer, and then come 15 to 18. */
+enum duftheim_number {
+  DUFTHEIM_ACCEPTED = 0,         /* the answer is yes, and the place is 0 */
+  DUFTHEIM_WRONG_DIMENSION = 1,  /* n is not 1 to 4; no place */
+  DUFTHEIM_WRONG_SIZE = 2,       /* m is 0, or n * m is above 1,020; no place */
+  DUFTHEIM_WRONG_LENGTH = 3,     /* the table has not n * m numbers; no place */
+  DUFTHEIM_SHORT_OUTPUT = 4,     /* the output is shorter than n * m or, for the match, m; no place */
+  DUFTHEIM_NO_SUCH_DART = 5,     /* a number of the table is above m; its dart */
+  DUFTHEIM_SEWN_TWICE = 6,       /* a dart is 1-sewn to what a lower dart is 1-sewn to; the dart */
+  DUFTHEIM_NOT_SEWN_BACK = 7,    /* an i-sewing, i from 2, does not lead back; the dart */
+  DUFTHEIM_SEWINGS_PART = 8,     /* two sewings in turn, and again, do not lead back; the dart */
+  DUFTHEIM_NOT_CONNECTED = 9,    /* a dart cannot be reached from dart 1; the dart */
+  DUFTHEIM_NO_MATCHING = 10,     /* the layouts differ in n or m, or have no matching; no place */
+  DUFTHEIM_BAD_LIST = 11,        /* the list has not m numbers: no place; or one is 0, above m or used before: its dart */
+  DUFTHEIM_SEWING_NOT_KEPT = 12, /* the list does not keep a dart's sewings; the dart */
+  DUFTHEIM_WRONG_COUNT = 13,     /* the count is above 1,024, or the drawer shorter than its records; no place */
+  DUFTHEIM_BAD_RECORD = 14,      /* a record is not as said above, or has the die or layout of an earlier one; the record */
+  DUFTHEIM_NOT_FOUND = 15,       /* the layout is not filed; no place */
+  DUFTHEIM_WRONG_DIE = 16,       /* the die number is 0: no place; or it is filed already: its record */
+  DUFTHEIM_FILED_ALREADY = 17,   /* the layout is filed already; its record */
+  DUFTHEIM_DRAWER_FULL = 18,     /* there are 1,024 records, or the drawer has no room for one more; no place */
+  DUFTHEIM_OF_SECOND = 20        /* no number: 21 to 23 and 25 to 29 are 1 to 3 and 5 to 9, of the second layout */
+};
 
-   Of one layout the lowest number that applies is given, at the least dart. A call with two layouts judges the first, then the
-   second, whose numbers are 20 higher (21 to 23 and 25 to 29), and after both come 10, 11 and 12. A call with a layout and a
-   drawer judges the layout first, then the drawer, of which 14 names the first bad record, and then come 15 to 18. */
 struct duftheim_verdict {
-  uint32_t number;
+  uint32_t number; /* one of the numbers above, here and below */
   size_t place;
 };
 
@@ -95,9 +133,6 @@ struct duftheim_verdict duftheim_match(size_t n, size_t m, const uint16_t *table
 struct duftheim_verdict duftheim_judge(size_t n, size_t m, const uint16_t *table, size_t table_length, size_t second_n,
                                        size_t second_m, const uint16_t *second_table, size_t second_table_length,
                                        const uint16_t *list, size_t list_length);
-
-#define DUFTHEIM_RECORD_SIZE 2048 /* bytes */
-#define DUFTHEIM_MOST_RECORDS 1024
 
 /* Whether a drawer is one that the other calls accept: no record is bad. `drawer_length` counts bytes, here and below, and may
    be more than the records need. The answer is 0, 13 or 14. Nothing is written. */

@@ -76,11 +76,18 @@ static struct map_kind draw_versions(uint64_t drawn, uint16_t *table) {
   return kind;
 }
 
+// Rings, of which every start runs to the end: n = 1 and 1,020 darts down to 1, and then n = 2.
+static struct map_kind draw_rings(uint64_t drawn, uint16_t *table) {
+  return drawn < 1020 ? draw_sized("ring-n1", 1020 - drawn, drawn, table)
+                      : draw_sized("ring", 1530 - drawn, drawn, table);
+}
+
 static const struct drawer_kind drawer_kinds[] = {
     {"random", draw_random},
     {"mixed", draw_mixed},
     {"small", draw_small},
     {"versions", draw_versions},
+    {"rings", draw_rings},
 };
 
 static const struct drawer_kind *drawer_kind_named(const char *name) {
@@ -146,7 +153,7 @@ static void fill_drawer(const struct drawer_kind *kind, size_t records) {
 }
 
 static int complain(void) {
-  fprintf(stderr, "usage: drawers random|mixed|small|versions COUNT, COUNT 1 to 1024\n");
+  fprintf(stderr, "usage: drawers random|mixed|small|versions|rings COUNT, COUNT 1 to 1024\n");
   return 2;
 }
 

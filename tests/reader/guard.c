@@ -4,13 +4,12 @@
 
 #include <signal.h>
 #include <stdio.h>
-#include <stdlib.h>
 #include <string.h>
 #include <sys/mman.h>
 #include <unistd.h>
 
-// Where an emulator's own pages are larger than these, protection holds only for whole ones of
-// them: areas begin and end at their edges, which no page size known exceeds.
+// Under an emulator, the pages of the machine below may be larger, and only whole ones of those can
+// be closed. So areas begin and end at multiples of EDGE, the largest page that there is.
 enum { PAGE = 4096, EDGE = 65536, FENCE_BYTE = 0xA5 };
 
 enum { MOST_BUFFERS = 3 };
@@ -25,7 +24,7 @@ struct area {
   size_t open_length;
 };
 
-// A buffer of the call under way. Those to be written are filled from `back`, and copied there.
+// A buffer of the call under way. What may be written goes to `back` in the end; else that is NULL.
 struct buffer {
   const char *name;
   uint8_t *back;
@@ -111,8 +110,8 @@ static void make_room(struct area *area, size_t length) {
 }
 
 // Opens the first or the last pages, and closes all others.
-static void open_pages(struct area *area, enum side at, size_t length) {
-  uint8_t *open = at == AT_START ? area->memory : area->memory + area->room - length;
+static void open_pages(struct area *area, size_t length) {
+  uint8_t *open = side == AT_START ? area->memory : area->memory + area->room - length;
   if (open != area->open || length != area->open_length) {
     protect(area->open, area->open_length, PROT_NONE);
   }
@@ -142,7 +141,7 @@ static uint8_t *lend_pages(const char *name, const void *bytes, size_t length, u
   struct buffer *buffer = &buffers[buffer_count++];
   size_t whole = rounded_up(length, PAGE);
   make_room(area, whole);
-  open_pages(area, side, whole);
+  open_pages(area, whole);
   uint8_t *lent = side == AT_START ? area->open : area->open + whole - length;
   struct fence fence = fence_of(area, length);
   if (fence.length != 0) {

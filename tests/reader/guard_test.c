@@ -12,7 +12,7 @@
 #include "guard.h"
 #include "library.h"
 
-enum { MOST_BUFFERS = 3, MOST_LENGTH = 140001, WRITTEN = 77 };
+enum { MOST_BUFFERS = 3, MANY_PAGES = 30000, MOST_LENGTH = 140000, WRITTEN = 77 };
 
 // ---- The calls in the library's place ----
 
@@ -62,11 +62,16 @@ static uint32_t done(const struct lent *lent) {
     return 0 * first[-1];
   case READ_BEHIND:
     return 0 * behind[0];
+  // Only the time that no guard stands right there.
   case WRITE_BEFORE:
-    first[-1] = 0;
+    if (calls_made == 2) {
+      first[-1] = 0;
+    }
     return 0;
   case WRITE_BEHIND:
-    behind[0] = 0;
+    if (calls_made == 1) {
+      behind[0] = 0;
+    }
     return 0;
   case WRITE_INSIDE:
     behind[-1] = 0;
@@ -139,14 +144,14 @@ struct duftheim_filed duftheim_file(uint32_t die, size_t n, size_t m, const uint
 
 // ---- Asking ----
 
-// Bytes of each buffer; a list has half as many numbers. None, few, just a page, more than one,
-// more than the first area has.
-static const size_t lengths[] = {0, 6, 4096, 5002, 140000};
+// Bytes of each buffer; a list has half as many numbers. None, few, more than a page, just pages of
+// every size, more than the first area has.
+static const size_t lengths[] = {0, 6, 5002, 65536, MOST_LENGTH};
 static size_t length;
 
-static uint16_t table[MOST_LENGTH];
-static uint16_t second_table[MOST_LENGTH];
-static uint16_t last[MOST_LENGTH];
+static uint16_t table[MOST_LENGTH / 2];
+static uint16_t second_table[MOST_LENGTH / 2];
+static uint16_t last[MOST_LENGTH / 2];
 static uint8_t *const drawer = (uint8_t *)last;
 
 static struct second_map first_map(void) {
@@ -225,6 +230,19 @@ static const char *const parts_said[DEEDS] = {
 static int tried;
 static int failed;
 
+// Lends more pages than most calls that come then, which must be closed to those.
+static void open_many_pages(const struct call *call) {
+  size_t kept_length = length;
+  enum deed kept_deed = deed;
+  length = MANY_PAGES;
+  deed = ALL_INSIDE;
+  call->ask();
+  length = kept_length;
+  deed = kept_deed;
+  calls_made = 0;
+  memset(last, 0, sizeof last);
+}
+
 // What is asked in a process of its own, since a guard ends it.
 static int status_of(const struct call *call, char *message, size_t room) {
   int ends[2];
@@ -236,6 +254,7 @@ static int status_of(const struct call *call, char *message, size_t room) {
   pid_t child = fork();
   if (child == 0) {
     dup2(ends[1], STDERR_FILENO);
+    open_many_pages(call);
     call->ask();
     // What the call wrote must have come back.
     _exit(call->writes && deed == ALL_INSIDE && length != 0 && drawer[length - 1] != WRITTEN);

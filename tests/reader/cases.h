@@ -1,4 +1,4 @@
-// What turns.c, pairs.c and runs.c share: reading cases in the form of CASES.md, counting
+// What turns.c, pairs.c, runs.c and inputs.c share: reading cases in the form of CASES.md, counting
 // what holds and what was given, outputs that show a change, and other numberings.
 #ifndef CASES_H
 #define CASES_H

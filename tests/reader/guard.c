@@ -84,7 +84,7 @@ static void watch_faults(void) {
 // ---- Areas ----
 
 static size_t rounded_up(size_t length, size_t step) {
-  return (length + step - 1) / step * step;
+  return (length / step + (length % step != 0)) * step;
 }
 
 static void protect(uint8_t *at, size_t length, int protection) {
@@ -143,15 +143,14 @@ static uint8_t *lend_pages(const char *name, const void *bytes, size_t length, u
   make_room(area, whole);
   open_pages(area, whole);
   uint8_t *lent = side == AT_START ? area->open : area->open + whole - length;
-  struct fence fence = fence_of(area, length);
-  if (fence.length != 0) {
-    memset(fence.bytes, FENCE_BYTE, fence.length);
-  }
   if (length != 0) {
     memcpy(lent, bytes, length);
   }
   if (back == NULL) {
     protect(area->open, whole, PROT_READ);
+  } else {
+    struct fence fence = fence_of(area, length);
+    memset(fence.bytes, FENCE_BYTE, fence.length);
   }
   buffer->name = name;
   buffer->length = length;

@@ -1,4 +1,4 @@
-// Reading, counting, buffers and numberings for the programs that ask the library about cases.
+// Reading, counting, outputs and numberings for the programs that ask the library about cases.
 #include "cases.h"
 
 #include <inttypes.h>
@@ -30,6 +30,27 @@ void expect(bool holds, struct second_map map, const char *what) {
 int finish(void) {
   printf("%" PRIu64 " passed, %" PRIu64 " failed\n", passed, failed);
   return failed == 0 ? 0 : 1;
+}
+
+void count_given(struct given *given, unsigned number) {
+  if (number <= MOST_NUMBER) {
+    given->times[number]++;
+  }
+}
+
+bool all_given(const char *call, const struct given *given, const char *wanted) {
+  bool all = true;
+  printf("%s:", call);
+  for (size_t number = 0; number <= MOST_NUMBER; number++) {
+    if (given->times[number] > 0) {
+      printf(" %zu:%" PRIu64, number, given->times[number]);
+    } else if (number < strlen(wanted) && wanted[number] == 'x') {
+      printf(" (FAILED: no %zu)", number);
+      all = false;
+    }
+  }
+  printf("\n");
+  return all;
 }
 
 // ---- Reading ----
@@ -88,47 +109,28 @@ static size_t read_times(size_t most) {
   return 1;
 }
 
-static struct list new_list(size_t length) {
-  struct list list = {calloc(length + 1, sizeof list.numbers[0]), length};
-  if (list.numbers == NULL) {
-    stop("no memory for a list");
-  }
-  return list;
-}
-
-static struct list read_list(void) {
-  struct list list = new_list(read_number(UINT32_MAX));
-  for (size_t at = 0; at < list.length;) {
-    uint16_t number = (uint16_t)read_number(UINT16_MAX);
-    for (size_t times = read_times(list.length - at); times > 0; times--) {
-      list.numbers[at++] = number;
-    }
-  }
-  return list;
-}
-
 struct second_map read_map(void) {
   uint64_t n = read_number(UINT64_MAX);
   uint64_t m = read_number(UINT64_MAX);
-  struct list table = read_list();
-  return (struct second_map){n, m, table.numbers, table.length};
+  size_t length = read_number(UINT32_MAX);
+  uint16_t *table = calloc(length + 1, sizeof table[0]);
+  if (table == NULL) {
+    stop("no memory for a table");
+  }
+  for (size_t at = 0; at < length;) {
+    uint16_t number = (uint16_t)read_number(UINT16_MAX);
+    for (size_t times = read_times(length - at); times > 0; times--) {
+      table[at++] = number;
+    }
+  }
+  return (struct second_map){n, m, table, length};
 }
 
 void drop_map(struct second_map map) {
   free((void *)map.table);
 }
 
-// ---- Buffers ----
-
-struct list copied(const uint16_t *numbers, size_t length) {
-  struct list list = new_list(length);
-  memcpy(list.numbers, numbers, length * sizeof numbers[0]);
-  return list;
-}
-
-void drop_list(struct list list) {
-  free(list.numbers);
-}
+// ---- Outputs ----
 
 bool same_numbers(const uint16_t *one, const uint16_t *other, size_t length) {
   return memcmp(one, other, length * sizeof one[0]) == 0;

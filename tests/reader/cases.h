@@ -1,5 +1,5 @@
-// What turns.c, pairs.c and runs.c share: reading cases in the form of CASES.md, counting what
-// holds, buffers that show a change, and other numberings.
+// What turns.c, pairs.c, runs.c and inputs.c share: reading cases in the form of CASES.md, counting
+// what holds and what was given, outputs that show a change, and other numberings.
 #ifndef CASES_H
 #define CASES_H
 
@@ -20,6 +20,17 @@ void expect(bool holds, struct second_map map, const char *what);
 // Prints how many promises held, and is the program's status.
 int finish(void);
 
+// How often a call gave each number.
+enum { MOST_NUMBER = 29 };
+struct given {
+  uint64_t times[MOST_NUMBER + 1];
+};
+void count_given(struct given *given, unsigned number);
+
+// Prints them. `wanted` has an x for each number, from 0, that must have been given: one that never
+// was has not been compared. False where there is one.
+bool all_given(const char *call, const struct given *given, const char *wanted);
+
 // ---- Reading ----
 
 // Goes to the next case of that word; false after the last one.
@@ -29,21 +40,11 @@ uint64_t cases_read(void);
 // For a case that is made here and not read.
 void count_case(void);
 
-struct list {
-  uint16_t *numbers;
-  size_t length;
-};
-
 // The next map of the case, with a table that the caller drops.
 struct second_map read_map(void);
 void drop_map(struct second_map map);
 
-// ---- Buffers ----
-
-// A copy for the library, so that a change to it is seen and harms no later turn. Never a null
-// pointer, also where it is empty.
-struct list copied(const uint16_t *numbers, size_t length);
-void drop_list(struct list list);
+// ---- Outputs ----
 
 bool same_numbers(const uint16_t *one, const uint16_t *other, size_t length);
 void leave_untouched(uint16_t *numbers, size_t length);

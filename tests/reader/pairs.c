@@ -5,8 +5,8 @@
 #include <stdio.h>
 #include <string.h>
 
-#include "../../include/duftheim.h"
 #include "cases.h"
+#include "library.h"
 
 static uint64_t matched;
 static uint64_t unmatched;
@@ -26,78 +26,34 @@ static bool same_size(struct pair pair) {
 
 // ---- Asking ----
 
-static bool is_verdict(struct duftheim_verdict verdict, uint32_t number, uint64_t place) {
+static bool is_verdict(struct second_verdict verdict, unsigned number, uint64_t place) {
   return verdict.number == number && verdict.place == place;
 }
 
-static bool same_verdicts(struct duftheim_verdict one, struct duftheim_verdict other) {
+static bool same_verdicts(struct second_verdict one, struct second_verdict other) {
   return is_verdict(one, other.number, other.place);
-}
-
-// The two tables as the library is lent them.
-struct lent_pair {
-  struct list first;
-  struct list second;
-};
-
-static struct lent_pair lend(struct pair pair) {
-  return (struct lent_pair){copied(pair.first.table, pair.first.length),
-                            copied(pair.second.table, pair.second.length)};
-}
-
-static void take_back(struct pair pair, struct lent_pair lent) {
-  expect(same_numbers(lent.first.numbers, pair.first.table, pair.first.length), pair.first,
-         "the first table is changed");
-  expect(same_numbers(lent.second.numbers, pair.second.table, pair.second.length), pair.first,
-         "the second table is changed");
-  drop_list(lent.first);
-  drop_list(lent.second);
-}
-
-static struct duftheim_verdict ask_check(struct second_map map) {
-  struct list table = copied(map.table, map.length);
-  struct duftheim_verdict verdict = duftheim_check(map.n, map.m, table.numbers, table.length);
-  drop_list(table);
-  return verdict;
 }
 
 // What one match answered, and the numbers of its output.
 struct asked {
-  struct duftheim_verdict verdict;
+  struct second_verdict verdict;
   uint16_t images[MOST_NUMBERS + SPARE];
 };
 
 static struct asked ask_match(struct pair pair, size_t output_length) {
-  // The lent output stands between two parts that are not lent.
-  uint16_t room[SPARE + MOST_NUMBERS + SPARE + SPARE];
-  uint16_t *output = room + SPARE;
-  leave_untouched(room, sizeof room / sizeof room[0]);
-  struct lent_pair lent = lend(pair);
   struct asked asked;
-  asked.verdict = duftheim_match(pair.first.n, pair.first.m, lent.first.numbers, lent.first.length,
-                                 pair.second.n, pair.second.m, lent.second.numbers,
-                                 lent.second.length, output, output_length);
-  take_back(pair, lent);
+  leave_untouched(asked.images, MOST_NUMBERS + SPARE);
+  asked.verdict = library_match(pair.first, pair.second, asked.images, output_length);
   bool accepted = asked.verdict.number == 0;
   size_t written = accepted && pair.first.m <= output_length ? (size_t)pair.first.m : 0;
-  expect(all_untouched(room, SPARE), pair.first, "what stands before the output is changed");
-  expect(all_untouched(output + written, MOST_NUMBERS + SPARE + SPARE - written), pair.first,
+  expect(all_untouched(asked.images + written, MOST_NUMBERS + SPARE - written), pair.first,
          accepted ? "the output is changed beyond its first m numbers"
                   : "the output is changed by a refusal");
-  memcpy(asked.images, output, sizeof asked.images);
   return asked;
 }
 
-static struct duftheim_verdict ask_judge(struct pair pair, const uint16_t *list, size_t length) {
-  struct lent_pair lent = lend(pair);
-  struct list lent_list = copied(list, length);
-  struct duftheim_verdict verdict = duftheim_judge(
-      pair.first.n, pair.first.m, lent.first.numbers, lent.first.length, pair.second.n,
-      pair.second.m, lent.second.numbers, lent.second.length, lent_list.numbers, lent_list.length);
-  take_back(pair, lent);
-  expect(same_numbers(lent_list.numbers, list, length), pair.first, "the list is changed");
-  drop_list(lent_list);
-  return verdict;
+static struct second_verdict ask_judge(struct pair pair, const uint16_t *list, size_t length) {
+  return library_judge(pair.first, pair.second, list, length);
 }
 
 // Wants accepted maps of one size: their signatures say whether they are the same layout.
@@ -105,8 +61,8 @@ static bool same_signatures(struct pair pair) {
   uint16_t first[MOST_NUMBERS];
   uint16_t second[MOST_NUMBERS];
   size_t length = pair.first.length;
-  duftheim_signature(pair.first.n, pair.first.m, pair.first.table, length, first, MOST_NUMBERS);
-  duftheim_signature(pair.second.n, pair.second.m, pair.second.table, length, second, MOST_NUMBERS);
+  library_sign(pair.first, first, MOST_NUMBERS);
+  library_sign(pair.second, second, MOST_NUMBERS);
   return same_numbers(first, second, length);
 }
 
@@ -233,28 +189,28 @@ static void turn_unmatched(struct pair pair) {
     unmoved[dart - 1] = (uint16_t)dart;
   }
   struct second_verdict right = second_judge(pair.first, pair.second, unmoved, m);
-  struct duftheim_verdict verdict = ask_judge(pair, unmoved, m);
+  struct second_verdict verdict = ask_judge(pair, unmoved, m);
   expect(verdict.number == 12, pair.first, "a list is not 12 where there is no matching");
   expect(is_verdict(verdict, right.number, right.place), pair.first,
          "12 elsewhere than by the second program");
 }
 
 // What is refused before any list is looked at. 0 where both maps are accepted and of one size.
-static struct duftheim_verdict refusal_of_maps(struct pair pair) {
-  struct duftheim_verdict first = ask_check(pair.first);
-  struct duftheim_verdict second = ask_check(pair.second);
+static struct second_verdict refusal_of_maps(struct pair pair) {
+  struct second_verdict first = library_check(pair.first);
+  struct second_verdict second = library_check(pair.second);
   if (first.number != 0) {
     return first;
   }
   if (second.number != 0) {
-    return (struct duftheim_verdict){second.number + 20, second.place};
+    return (struct second_verdict){second.number + 20, second.place};
   }
-  return (struct duftheim_verdict){same_size(pair) ? 0 : 10, 0};
+  return (struct second_verdict){same_size(pair) ? 0 : 10, 0};
 }
 
 static void turn(struct pair pair) {
   struct asked asked = ask_match(pair, MOST_NUMBERS + SPARE);
-  struct duftheim_verdict refusal = refusal_of_maps(pair);
+  struct second_verdict refusal = refusal_of_maps(pair);
   if (refusal.number != 0) {
     expect(same_verdicts(asked.verdict, refusal), pair.first,
            "the match judges the maps otherwise than the check does");

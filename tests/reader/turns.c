@@ -4,9 +4,9 @@
 #include <inttypes.h>
 #include <stdio.h>
 
-#include "../../include/duftheim.h"
 #include "../second/second_inside.h"
 #include "cases.h"
+#include "library.h"
 
 enum { RENUMBERINGS = 4 };
 
@@ -16,17 +16,14 @@ static uint64_t accepted_maps;
 
 // What one call answered, and the output that it was lent a part of.
 struct asked {
-  struct duftheim_signed answer;
+  struct second_signed answer;
   uint16_t output[MOST_NUMBERS + SPARE];
 };
 
 static struct asked ask(struct second_map map, size_t lent) {
   struct asked asked;
   leave_untouched(asked.output, MOST_NUMBERS + SPARE);
-  struct list table = copied(map.table, map.length);
-  asked.answer = duftheim_signature(map.n, map.m, table.numbers, table.length, asked.output, lent);
-  expect(same_numbers(table.numbers, map.table, map.length), map, "the table is changed");
-  drop_list(table);
+  asked.answer = library_sign(map, asked.output, lent);
   // An accepted table has n * m numbers, as many as may be written.
   size_t written = asked.answer.number == 0 && map.length <= lent ? map.length : 0;
   expect(all_untouched(asked.output + written, MOST_NUMBERS + SPARE - written), map,
@@ -35,11 +32,8 @@ static struct asked ask(struct second_map map, size_t lent) {
 }
 
 // No output is lent here, so 4 is never given.
-static void turn_to_check(struct second_map map, struct duftheim_signed answer) {
-  struct list table = copied(map.table, map.length);
-  struct duftheim_verdict verdict = duftheim_check(map.n, map.m, table.numbers, table.length);
-  expect(same_numbers(table.numbers, map.table, map.length), map, "the check changes the table");
-  drop_list(table);
+static void turn_to_check(struct second_map map, struct second_signed answer) {
+  struct second_verdict verdict = library_check(map);
   expect(verdict.number == answer.number && verdict.place == answer.place, map,
          "the check judges the map otherwise than the signature does");
 }
@@ -85,7 +79,7 @@ static void turn_to_renumbered(struct second_map map, const struct asked *asked)
          "no start of the signature when renumbered");
 }
 
-static bool same_answers(struct duftheim_signed one, struct duftheim_signed other) {
+static bool same_answers(struct second_signed one, struct second_signed other) {
   return one.number == other.number && one.place == other.place && one.start == other.start &&
          one.symmetries == other.symmetries;
 }
@@ -97,7 +91,7 @@ static void turn_output_length(struct second_map map, const struct asked *asked)
   expect(same_numbers(fitting.output, asked->output, map.length), map,
          "another signature with an output of n * m numbers");
   struct asked shorter = ask(map, map.length - 1);
-  expect(same_answers(shorter.answer, (struct duftheim_signed){.number = 4}), map,
+  expect(same_answers(shorter.answer, (struct second_signed){.number = 4}), map,
          "not 4 at 0 with an output that is one number short");
 }
 

@@ -165,23 +165,6 @@ static void print_spoiled(struct chance *chance, uint64_t cases) {
   }
 }
 
-uint64_t bad_count(uint64_t turn, const struct drawer *drawer) {
-  const uint64_t bad[BAD_COUNTS] = {
-      drawer->length / RECORD_BYTES + 1,
-      MOST_RECORDS + 1,
-      (uint64_t)1 << 53,
-      ((uint64_t)1 << 53) + 1,
-      UINT64_MAX,
-      drawer->count + ((uint64_t)1 << 32),
-      drawer->count + 65536,
-      ((uint64_t)1 << 63) + drawer->count,
-      MOST_RECORDS,
-      UINT64_MAX / RECORD_BYTES,
-      ((uint64_t)1 << 21) + drawer->count,
-  };
-  return bad[turn % BAD_COUNTS];
-}
-
 static void print_bad_counts(struct chance *chance, uint64_t cases) {
   printf("# counts that are above 1,024 or want more bytes than are lent\n");
   uint64_t which = chance_below(chance, BAD_COUNTS);

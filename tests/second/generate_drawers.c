@@ -1,4 +1,4 @@
-// Builds drawers record by record and spoils single records.
+// Builds drawers record by record, spoils single records, and gives counts that are wrong.
 #include "generate_drawers.h"
 
 #include <stdio.h>
@@ -334,4 +334,21 @@ bool spoil_record(struct chance *chance, struct drawer *drawer, uint64_t record,
     memcpy(own, kept, RECORD_BYTES);
   }
   return false;
+}
+
+uint64_t bad_count(uint64_t turn, const struct drawer *drawer) {
+  const uint64_t bad[BAD_COUNTS] = {
+      drawer->length / RECORD_BYTES + 1,
+      MOST_RECORDS + 1,
+      (uint64_t)1 << 53,
+      ((uint64_t)1 << 53) + 1,
+      UINT64_MAX,
+      drawer->count + ((uint64_t)1 << 32),
+      drawer->count + 65536,
+      ((uint64_t)1 << 63) + drawer->count,
+      MOST_RECORDS,
+      UINT64_MAX / RECORD_BYTES,
+      ((uint64_t)1 << 21) + drawer->count,
+  };
+  return bad[turn % BAD_COUNTS];
 }

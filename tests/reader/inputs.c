@@ -1,0 +1,446 @@
+// Small and random inputs of all seven calls, as many as asked: inputs COUNT SEED. What the library
+// answers, and every byte that it leaves, must be what the second program answers and leaves.
+#include <inttypes.h>
+#include <stdio.h>
+#include <stdlib.h>
+#include <string.h>
+
+#include "../second/generate.h"
+#include "../second/generate_drawers.h"
+#include "cases.h"
+#include "guard.h"
+#include "library.h"
+
+enum { FEW_RECORDS = 6, DRAWER_ROOM = (FEW_RECORDS + 2) * RECORD_BYTES, MOST_PRINTED = 5 };
+
+static struct chance chance;
+
+static uint64_t below(uint64_t bound) {
+  return chance_below(&chance, bound);
+}
+
+static bool one_in(uint64_t times) {
+  return chance_one_in(&chance, times);
+}
+
+// ---- Asking ----
+
+enum call { CHECK, SIGN, MATCH, JUDGE, DRAWER, FIND, ADD, CALLS };
+
+// The words of CASES.md, and an x for each number that must be given, from 0.
+static const char *const words[CALLS] = {"check",  "sign", "match", "judge",
+                                         "drawer", "find", "add"};
+static const char *const wanted[CALLS] = {
+    "xxxx.xxxxx",
+    "xxxxxxxxxx",
+    "xxxxxxxxxxx..........xxx.xxxxx",
+    "xxxx.xxxxxxxx........xxx.xxxxx",
+    "x............xx",
+    "xxxx.xxxxx...xxx",
+    "xxxx.xxxxx...xx.xxx",
+};
+
+// What a call is asked. The numbers are the list, or the output before the call.
+static struct {
+  enum call call;
+  struct map first;
+  struct map second;
+  uint16_t numbers[TABLE_ROOM];
+  size_t length;
+  struct drawer drawer;
+  uint32_t die;
+} input;
+
+// The calls of one program, what it answered, and what it left.
+struct side {
+  struct second_verdict (*check)(struct second_map);
+  struct second_signed (*sign)(struct second_map, uint16_t *, size_t);
+  struct second_verdict (*match)(struct second_map, struct second_map, uint16_t *, size_t);
+  struct second_verdict (*judge)(struct second_map, struct second_map, const uint16_t *, size_t);
+  struct second_verdict (*drawer)(uint64_t, const uint8_t *, size_t);
+  struct second_found (*find)(struct second_map, uint64_t, const uint8_t *, size_t);
+  struct second_filed (*add)(uint32_t, struct second_map, uint64_t, uint8_t *, size_t);
+  uint64_t answer[ANSWER_NUMBERS];
+  uint16_t numbers[TABLE_ROOM];
+  uint8_t bytes[DRAWER_ROOM];
+};
+
+static struct side second = {.check = second_check,
+                             .sign = second_sign,
+                             .match = second_match,
+                             .judge = second_judge,
+                             .drawer = second_drawer,
+                             .find = second_find,
+                             .add = second_add};
+static struct side library = {.check = library_check,
+                              .sign = library_sign,
+                              .match = library_match,
+                              .judge = library_judge,
+                              .drawer = library_drawer,
+                              .find = library_find,
+                              .add = library_add};
+
+static void hold(struct side *side, uint64_t number, uint64_t place, uint64_t third,
+                 uint64_t fourth) {
+  const uint64_t answer[ANSWER_NUMBERS] = {number, place, third, fourth};
+  memcpy(side->answer, answer, sizeof answer);
+}
+
+static void hold_verdict(struct side *side, struct second_verdict verdict) {
+  hold(side, verdict.number, verdict.place, 0, 0);
+}
+
+static void ask(struct side *side) {
+  struct second_map map = map_lent(&input.first);
+  struct second_map other = map_lent(&input.second);
+  uint64_t count = input.drawer.count;
+  size_t bytes = input.drawer.length;
+  memcpy(side->numbers, input.numbers, input.length * sizeof input.numbers[0]);
+  memcpy(side->bytes, input.drawer.bytes, bytes);
+  switch (input.call) {
+  case CHECK:
+    hold_verdict(side, side->check(map));
+    break;
+  case SIGN: {
+    struct second_signed answer = side->sign(map, side->numbers, input.length);
+    hold(side, answer.number, answer.place, answer.start, answer.symmetries);
+    break;
+  }
+  case MATCH:
+    hold_verdict(side, side->match(map, other, side->numbers, input.length));
+    break;
+  case JUDGE:
+    hold_verdict(side, side->judge(map, other, side->numbers, input.length));
+    break;
+  case DRAWER:
+    hold_verdict(side, side->drawer(count, side->bytes, bytes));
+    break;
+  case FIND: {
+    struct second_found answer = side->find(map, count, side->bytes, bytes);
+    hold(side, answer.number, answer.place, answer.die, answer.record);
+    break;
+  }
+  default: {
+    struct second_filed answer = side->add(input.die, map, count, side->bytes, bytes);
+    hold(side, answer.number, answer.place, answer.count, 0);
+  }
+  }
+}
+
+static bool sides_agree(void) {
+  return memcmp(second.answer, library.answer, sizeof second.answer) == 0 &&
+         same_numbers(second.numbers, library.numbers, input.length) &&
+         memcmp(second.bytes, library.bytes, input.drawer.length) == 0;
+}
+
+// As a case, so that both programs can be asked again.
+static void print_input(void) {
+  printf("%s", words[input.call]);
+  if (input.call == ADD) {
+    printf(" %" PRIu32, input.die);
+  }
+  if (input.call != DRAWER) {
+    print_map(&input.first);
+  }
+  if (input.call == MATCH || input.call == JUDGE) {
+    print_map(&input.second);
+  }
+  if (input.call == SIGN || input.call == MATCH || input.call == JUDGE) {
+    print_numbers(input.numbers, input.length);
+  }
+  if (input.call >= DRAWER) {
+    printf(" %" PRIu64, input.drawer.count);
+    print_bytes(input.drawer.bytes, input.drawer.length);
+  }
+  printf("\n");
+}
+
+static void print_answer(const char *name, const struct side *side) {
+  printf("  %s  %" PRIu64 " %" PRIu64 " %" PRIu64 " %" PRIu64 "\n", name, side->answer[0],
+         side->answer[1], side->answer[2], side->answer[3]);
+}
+
+// ---- Maps ----
+
+// Few are large, since those take long.
+static struct map right_map(void) {
+  uint64_t n = 1 + below(4);
+  if (one_in(3000)) {
+    return accepted_map(&chance, n, MOST_ENTRIES / n);
+  }
+  return one_in(100) ? any_accepted_map(&chance, MOST_ENTRIES)
+                     : accepted_map(&chance, n, 1 + below(7));
+}
+
+static struct map nearly_right_map(void) {
+  struct map map = right_map();
+  size_t at = (size_t)below(map.length);
+  map.table[at] = (uint16_t)below(map.m + 2);
+  return map;
+}
+
+// A number of any size, small ones as likely as large ones.
+static uint64_t any_number(void) {
+  uint64_t number = chance_next(&chance);
+  return number >> below(64);
+}
+
+// Any n, few darts, a number now and then too large, and a length near the right one.
+static struct map blind_map(void) {
+  uint64_t n = below(6);
+  struct map map = map_empty(n, below(6));
+  if (one_in(16)) {
+    map.m = any_number();
+  } else if (one_in(16)) {
+    map.n = any_number();
+  }
+  uint64_t most = (map.m & UINT16_MAX) + (one_in(6) ? 1 : 0);
+  if (one_in(8)) {
+    map.length = (size_t)below(map.length + 3);
+  }
+  for (size_t at = 0; at < map.length; at++) {
+    map.table[at] = one_in(2) ? 0 : (uint16_t)below(most + 1);
+  }
+  return map;
+}
+
+// The largest size, one dart less or one more. Those accepted take long, so most have a fault.
+static struct map largest_map(void) {
+  uint64_t n = 1 + below(4);
+  struct map map = map_empty(n, MOST_ENTRIES / n - 1 + below(3));
+  for (uint64_t dart = 1; dart < map.m; dart++) {
+    map.table[(dart - 1) * n] = (uint16_t)(dart + 1);
+  }
+  if (!one_in(16)) {
+    size_t at = (size_t)below(map.length);
+    map.table[at] = (uint16_t)below(map.m + 2);
+  }
+  if (one_in(8)) {
+    map.length += one_in(2) ? 1 : -1;
+  }
+  return map;
+}
+
+static struct map any_map(void) {
+  switch (below(16)) {
+  case 0:
+  case 1:
+  case 2:
+    return blind_map();
+  case 3:
+  case 4:
+  case 5:
+    return nearly_right_map();
+  case 6:
+  case 7:
+    return refused_map(&chance, table_refusals[below(TABLE_REFUSALS)], 24);
+  case 8:
+    return one_in(8) ? largest_map() : twice_refused_map(&chance, 24);
+  default:
+    return right_map();
+  }
+}
+
+// ---- Lists and outputs ----
+
+// Often the first map under the names of the list, or near it, where that has a meaning.
+static struct map any_second_map(void) {
+  struct map near = input.first;
+  uint64_t way = below(8);
+  if (way < 2 || map_refusal(&near) != 0) {
+    return any_map();
+  }
+  if (way == 2) {
+    return one_in(2) ? near : accepted_map(&chance, near.n, near.m);
+  }
+  struct map changed;
+  if ((way == 3 && map_mirrored(&near, &changed)) ||
+      (way == 4 && map_less_one_sewing(&chance, &near, &changed)) ||
+      (way == 5 && map_with_loose_end_turned(&chance, &near, &changed))) {
+    near = changed;
+  }
+  return map_renamed(&near, input.numbers);
+}
+
+// A list of m different darts, or a few numbers where m is out of bounds.
+static void draw_list(void) {
+  input.length = (size_t)(input.first.m <= MOST_ENTRIES ? input.first.m : below(8));
+  shuffled_names(&chance, input.length, input.numbers);
+}
+
+static void spoil_list(void) {
+  size_t one = (size_t)below(input.length + 1);
+  size_t other = (size_t)below(input.length + 1);
+  uint16_t number = input.numbers[one];
+  switch (below(8)) {
+  case 0:
+    input.numbers[one] = input.numbers[other];
+    input.numbers[other] = number;
+    break;
+  case 1:
+    input.numbers[one] = (uint16_t)below(input.length + 2);
+    break;
+  case 2:
+    input.length = one;
+    break;
+  case 3:
+    input.length++;
+    break;
+  default:
+    break;
+  }
+}
+
+static void draw_output(size_t needed) {
+  switch (below(8)) {
+  case 0:
+    input.length = needed + 1;
+    break;
+  case 1:
+    input.length = needed + (size_t)below(9);
+    break;
+  case 2:
+    input.length = needed - (needed != 0);
+    break;
+  case 3:
+    input.length = (size_t)below(needed + 1);
+    break;
+  default:
+    input.length = needed;
+  }
+  uint16_t mark = (uint16_t)chance_next(&chance);
+  for (size_t at = 0; at < input.length; at++) {
+    input.numbers[at] = (uint16_t)(mark + at);
+  }
+}
+
+static void draw_numbers(void) {
+  const struct map *map = &input.first;
+  input.length = 0;
+  if (input.call == MATCH || input.call == JUDGE) {
+    draw_list();
+    input.second = any_second_map();
+  }
+  if (input.call == JUDGE) {
+    spoil_list();
+  } else if (input.call == MATCH) {
+    draw_output(map->m <= MOST_ENTRIES ? (size_t)map->m : map->length);
+  } else if (input.call == SIGN) {
+    draw_output(map->length);
+  }
+}
+
+// ---- Drawers ----
+
+static uint32_t any_die(const struct drawer *drawer) {
+  if (one_in(8)) {
+    return 0;
+  }
+  if (drawer->count > 0 && one_in(5)) {
+    return record_die(drawer_record(drawer, 1 + below(drawer->count)));
+  }
+  return (uint32_t)any_number();
+}
+
+// Layouts and dies drawn twice are refused, so there may be fewer records than room for them.
+static struct drawer small_drawer(void) {
+  const size_t spares[] = {0, 1, RECORD_BYTES - 1, RECORD_BYTES, (size_t)below(2 * RECORD_BYTES)};
+  uint64_t records = below(FEW_RECORDS + 1);
+  size_t spare = spares[below(sizeof spares / sizeof spares[0])];
+  struct drawer drawer = good_drawer(&chance, 0, records * RECORD_BYTES + spare, one_in(2));
+  while (records-- > 0) {
+    struct map map = right_map();
+    uint32_t die = any_die(&drawer);
+    struct second_filed filed =
+        second_add(die, map_lent(&map), drawer.count, drawer.bytes, drawer.length);
+    drawer.count += filed.number == 0;
+  }
+  return drawer;
+}
+
+static void spoil_drawer(struct drawer *drawer) {
+  size_t filled = drawer->count * RECORD_BYTES;
+  uint64_t way = below(10);
+  if (way == 0) {
+    drawer->count = bad_count(below(BAD_COUNTS), drawer);
+  } else if (way == 1) {
+    drawer->count = one_in(2) ? any_number() : below(FEW_RECORDS + 3);
+  } else if (way == 2) {
+    drawer->length = (size_t)below(drawer->length + 1);
+  } else if (filled != 0 && way == 3) {
+    drawer->length = filled - (size_t)below(2);
+  } else if (filled != 0 && way == 4) {
+    size_t at = (size_t)below(filled);
+    drawer->bytes[at] = (uint8_t)chance_next(&chance);
+  } else if (filled != 0 && way == 5) {
+    uint64_t record = 1 + below(drawer->count);
+    spoil_record(&chance, drawer, record, (enum spoil)below(SPOIL_COUNT));
+  }
+}
+
+// One drawer serves some inputs, since it is long to make.
+static void draw_drawer(void) {
+  static uint8_t bytes[DRAWER_ROOM];
+  static struct drawer good;
+  input.drawer = (struct drawer){.bytes = bytes};
+  if (input.call < DRAWER) {
+    return;
+  }
+  if (good.bytes == NULL || one_in(8)) {
+    drawer_free(&good);
+    good = small_drawer();
+  }
+  input.drawer.count = good.count;
+  input.drawer.length = good.length;
+  memcpy(bytes, good.bytes, good.length);
+  input.die = any_die(&good);
+  if (good.count > 0 && one_in(4)) {
+    input.first = filed_map(&chance, &good, 1 + below(good.count));
+  }
+  spoil_drawer(&input.drawer);
+}
+
+// ---- All inputs ----
+
+static bool compare(uint64_t inputs) {
+  static struct given given[CALLS];
+  uint64_t differ = 0;
+  for (uint64_t at = 0; at < inputs; at++) {
+    input.call = (enum call)(at % CALLS);
+    input.first = input.call >= MATCH && one_in(2) ? right_map() : any_map();
+    draw_numbers();
+    draw_drawer();
+    ask(&second);
+    ask(&library);
+    count_given(&given[input.call], (unsigned)second.answer[0]);
+    if (!sides_agree() && differ++ < MOST_PRINTED) {
+      printf("FAILED input %" PRIu64 ": ", at + 1);
+      print_input();
+      print_answer("the second program", &second);
+      print_answer("the library       ", &library);
+    }
+  }
+  bool all = true;
+  for (enum call call = CHECK; call < CALLS; call++) {
+    all = all_given(words[call], &given[call], wanted[call]) && all;
+  }
+  printf("%" PRIu64 " inputs agreed, %" PRIu64 " differ\n", inputs - differ, differ);
+  return differ == 0 && all;
+}
+
+static bool read_number(const char *text, uint64_t *number) {
+  char *end;
+  *number = strtoull(text, &end, 10);
+  return *text != '\0' && *end == '\0';
+}
+
+int main(int argc, char **argv) {
+  uint64_t inputs;
+  if (argc != 3 || !read_number(argv[1], &inputs) || !read_number(argv[2], &chance.state)) {
+    fprintf(stderr, "usage: inputs COUNT SEED, both numbers\n");
+    return 2;
+  }
+  printf("seed %s\n", argv[2]);
+  say_what_was_asked = print_input;
+  return compare(inputs) ? 0 : 1;
+}

@@ -2,3 +2,4 @@
 pub mod Example
 pub mod Printing
 pub mod Listed
+pub mod Shown

@@ -40,27 +40,6 @@ inside c =
     let at-loop = c .before .before .before in
     rw (next c) (at-loop .before .pre .inside (suc (at-loop .loop .k)) (omega arith) (c .before .before .loop-test .taken))
 
-loop-holds : tie.Need-loop-holds Inv-loop μ-loop
-loop-holds c = forgetting-start (c .pre .holds)
-
-mul-wide : tie.Need-mul-wide Inv-loop μ-loop
-mul-wide c = omega (arith, turn c)
-
-element-copy-out-wide : tie.Need-element-copy-out-wide Inv-loop μ-loop
-element-copy-out-wide c = turn c
-
-sub-labels : tie.Need-sub-labels Inv-loop μ-loop
-sub-labels c = inside c .0
-
-mul-labels : tie.Need-mul-labels Inv-loop μ-loop
-mul-labels c = omega (arith, inside c .0, inside c .1)
-
-element-write-labels : tie.Need-element-write-labels Inv-loop μ-loop
-element-write-labels c = omega (arith, inside c .0, inside c .1)
-
-add-k : tie.Need-add-k Inv-loop μ-loop
-add-k c = omega (arith, turn (c .before .before))
-
 loop-again : tie.Need-loop-again Inv-loop μ-loop
 loop-again c =
     let at-test = c .before .before in
@@ -75,14 +54,14 @@ forget-spec =
     (tie.spec
     Inv-loop
     μ-loop
-    loop-holds
-    mul-wide
-    element-copy-out-wide
+    (λ c. forgetting-start (c .pre .holds))
+    (λ c. omega (arith, turn c))
+    (λ c. turn c)
     (λ c κs. search needs)
-    sub-labels
-    mul-labels
-    element-write-labels
-    add-k
+    (λ c. inside c .0)
+    (λ c. omega (arith, inside c .0, inside c .1))
+    (λ c. omega (arith, inside c .0, inside c .1))
+    (λ c. omega (arith, turn (c .before .before)))
     (λ c. omega arith)
     loop-again
     returns)

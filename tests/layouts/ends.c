@@ -1,5 +1,5 @@
-// Runs a program on the first k bytes of a file, for each k from one number to another by a step, and copies what it writes.
-// `ends FILE FROM TO STEP PROGRAM WORD..`. Each run has to end with status 0.
+// Runs a program on the first k bytes of a file, for each k from one number to another by a step;
+// what it writes is written. `ends FILE FROM TO STEP PROGRAM WORD..`. Each run must have status 0.
 #define _POSIX_C_SOURCE 200809L
 #include <stdint.h>
 #include <stdio.h>

@@ -1,5 +1,5 @@
-// Copies its input to a pipe in pieces, and writes none before the last was taken: so the reader gets them one by one.
-// `feed 1` writes byte by byte; `feed MOST SEED` writes pieces of 1 to MOST bytes, of random sizes.
+// Copies its input to a pipe in pieces, and writes none before the last was taken: so the reader
+// gets them one by one. `feed MOST [SEED]` writes pieces of 1 to MOST bytes, of random sizes.
 #define _DEFAULT_SOURCE
 #include <sched.h>
 #include <stdint.h>
@@ -21,7 +21,7 @@ static uint64_t next_random(void) {
   return mixed ^ (mixed >> 31);
 }
 
-static void stop(const char *what) {
+static _Noreturn void stop(const char *what) {
   perror(what);
   exit(1);
 }

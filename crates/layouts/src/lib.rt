@@ -1,4 +1,4 @@
-// The layout lister: reads records from standard input and prints the line of each when it is complete. One record is held at a time.
+// The layout lister: reads records from standard input and prints the line of each when it is complete. One record is held.
 ghost use mathlib.Core.Path.{_≡_};
 ghost use Prim.Native.Nat.{_+_, _≤_};
 ghost use lib.ListN.{length};
@@ -92,8 +92,8 @@ fn finish(buffer: &[u8], progress: Progress) -> bool
     print(progress.records + 1, &buffer[0..bytes])
 }
 
-// Answers whether the whole input was read and each line written. Nothing says that the input ends, so the readings are counted down
-// from a number that no run uses up.
+// Answers whether the whole input was read and each line written. Nothing says that the input ends, so the readings are counted
+// down from a number that no run uses up.
 fn list(buffer: &mut [u8]) -> bool
     requires { ⌜ length (now buffer) ≡ 2048 ⌝ }
 {
@@ -111,7 +111,8 @@ fn list(buffer: &mut [u8]) -> bool
     false
 }
 
-// The whole program, but for its start: the status with which it is to end. A program of Rattle's own cannot set one, so main.c does.
+// The whole program, but for its start: the status with which it is to end. A program of Rattle's own cannot set one, so main.c
+// does.
 #[no_mangle]
 pub extern "C" fn layouts_run() -> i32
     ensures { λ r. ⌜ Status r ⌝ }

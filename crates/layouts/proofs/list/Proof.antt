@@ -1,4 +1,4 @@
--- `layouts::list` is safe and ends: the readings that are left fall, and no reading completes more than one record. Assumes nothing.
+-- `layouts::list` is safe and ends: the readings that are left fall, and none completes more than one record. Assumes nothing.
 use Prim.Native.Nat.{_+_, _≤_, _<_}
 use mathlib.Core.Path.{_≡_}
 use lib.ListN.{length}
@@ -28,7 +28,8 @@ loop-again c =
     let taken = c .before .before .before .before .before in
     let turn = taken .before .before .before in
     let further = rw (c .before .next .given .1) at (taken .take-some .ensures .1) in
-    (taken .take-some .ensures .0, (further .1 .1, omega (arith, further .1 .0, further .1 .1, turn .loop .inv .1 .1, turn .loop .inv .1 .0)))
+    let counted = turn .loop .inv .1 in
+    (taken .take-some .ensures .0, (further .1 .1, omega (arith, further .1 .0, further .1 .1, counted .0, counted .1)))
 
 pub list-spec : {M : Type 1} → statement M
 list-spec =

@@ -14,15 +14,6 @@ Inv-loop buffer₀ progress₀ turns₀ buffer progress turns =
 abbrev μ-loop : tie.MeasureT-loop
 μ-loop buffer₀ progress₀ turns₀ buffer progress turns = turns
 
-loop-holds : tie.Need-loop-holds Inv-loop μ-loop
-loop-holds c = search needs
-
-take-some-requires : tie.Need-take-some-requires Inv-loop μ-loop
-take-some-requires c κs = search needs
-
-finish-requires : tie.Need-finish-requires Inv-loop μ-loop
-finish-requires c κs = search needs
-
 loop-again : tie.Need-loop-again Inv-loop μ-loop
 loop-again c =
     let taken = c .before .before .before .before .before in
@@ -38,11 +29,11 @@ list-spec =
     Inv-loop
     μ-loop
     (λ c κs. search needs)
-    loop-holds
-    take-some-requires
+    (λ c. search needs)
+    (λ c κs. search needs)
     (λ c. search needs)
     (λ c. search needs)
-    finish-requires
+    (λ c κs. search needs)
     (λ c. search needs)
     (λ c. search needs)
     (λ c. search needs)

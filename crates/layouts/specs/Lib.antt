@@ -1,0 +1,2 @@
+-- What the lister's reading of its input promises.
+pub mod Reading

@@ -1,2 +1,3 @@
--- What the lister's reading of its input promises.
+-- What the lister's reading of its input promises. Read in this order.
 pub mod Reading
+pub mod Whole

@@ -1,6 +1,7 @@
 /* The die reader's library, for the camera's program: libduftheim.a, made by ./build.
 
-   A die's layout is a dart table: n numbers of 16 bits for each of its m darts. The darts are 1 to m, and 0 means "sewn to
+   A die's layout is a dart table: n numbers of 16 bits for each of its m darts (an edge of a panel, walked in one direction, is a
+   dart; docs/TOUR.md shows one). The darts are 1 to m, and 0 means "sewn to
    nothing". The i-th number of dart d, counted from 1, is the dart that d is i-sewn to; it stands at table[(d - 1) * n + i - 1].
    n is 1 to 4, and n * m at most 1,020.
 
@@ -17,16 +18,17 @@
    What a call needs
      Processor   x86-64 without extensions, with the System V calling convention (that of Linux): a size_t has 8 bytes. The code
                  uses SSE2 registers and the 128 bytes below the stack pointer (the red zone), which interrupts must leave alone.
-     Stack       6 to 17 KB. All working room is on the stack; none is lent by you, and none allocated. The bytes for each call
+     Stack       6 to 23 KB. All working room is on the stack; none is lent by you, and none allocated. The bytes for each call
                  are DUFTHEIM_STACK_.. below.
      To link     memcpy and memset, as the C library has them, and nothing else.
      Variables   none. No call keeps a pointer or anything else, so calls may run at the same time on buffers of their own, and
                  on shared ones that none of them writes.
-     Time        Every call returns; there is no bound in seconds. Instructions were counted: for a signature 5 thousand with 7
-                 darts, and 43 million for the slowest layout tried, a ring of 1,020 darts (n = 1); for a match at most 38
-                 million. Twice the darts cost up to four times as much. A drawer check judges every record, and so do search and
-                 filing each time: 89 million for 1,024 random layouts of 258 darts on the mean, but 13 billion for the slowest
-                 drawer tried, rings of 1 to 1,020 darts. docs/SPEED.md has all figures.
+     Time        Every call returns; there is no bound in seconds. Instructions were counted: for a signature 6 thousand with 7
+                 darts, 0.1 to 0.4 million for most layouts of the largest size, rings, grids and tori among them, and 13
+                 million for the slowest layout tried, a ring of 510 darts with one mark; for a match at most 37 million. A drawer
+                 check judges every record, and so do search and filing each time: 73 million for 1,024 random layouts of 258
+                 darts on the mean, 98 million for rings of 1 to 1,020 darts, but 380 million for 64 rings with marks, the slowest
+                 drawer tried. docs/SPEED.md has all figures.
      Answers     are handed back by value. The bytes between the members of a struct are not written: compare members.
 
    That the answers are right is proved, not tested. The proof rests on the prover, the compiler and the processor, on memcpy and
@@ -49,10 +51,10 @@
 #define DUFTHEIM_STACK_CHECK 6432
 #define DUFTHEIM_STACK_JUDGE 6464
 #define DUFTHEIM_STACK_MATCH 12640
-#define DUFTHEIM_STACK_SIGNATURE 12720
-#define DUFTHEIM_STACK_DRAWER_CHECK 12768
-#define DUFTHEIM_STACK_FILE 16912
-#define DUFTHEIM_STACK_SEARCH 16928
+#define DUFTHEIM_STACK_SIGNATURE 18912
+#define DUFTHEIM_STACK_DRAWER_CHECK 16848
+#define DUFTHEIM_STACK_FILE 23040
+#define DUFTHEIM_STACK_SEARCH 23056
 
 /* Bytes of a record, and records of a full drawer. */
 #define DUFTHEIM_RECORD_SIZE 2048

@@ -5,11 +5,12 @@
 #include <stdlib.h>
 #include <string.h>
 
-#include "../second/generate.h"
+#include "../cases/ask.h"
+#include "../maps/changes.h"
+#include "../maps/families.h"
 #include "../second/generate_drawers.h"
-#include "cases.h"
+#include "expect.h"
 #include "guard.h"
-#include "library.h"
 
 enum { FEW_RECORDS = 6, DRAWER_ROOM = (FEW_RECORDS + 2) * RECORD_BYTES, MOST_PRINTED = 5 };
 
@@ -25,12 +26,11 @@ static bool one_in(uint64_t times) {
 
 // ---- Asking ----
 
-enum call { CHECK, SIGN, MATCH, JUDGE, DRAWER, FIND, ADD, CALLS };
+// The record's own bytes are the header's and no call of the library.
+enum { ASKED_CALLS = RECORD };
 
-// The words of CASES.md, and an x for each number that must be given, from 0.
-static const char *const words[CALLS] = {"check",  "sign", "match", "judge",
-                                         "drawer", "find", "add"};
-static const char *const wanted[CALLS] = {
+// An x for each number that must be given, from 0.
+static const char *const wanted[ASKED_CALLS] = {
     "xxxx.xxxxx",
     "xxxxxxxxxx",
     "xxxxxxxxxxx..........xxx.xxxxx",
@@ -51,113 +51,46 @@ static struct {
   uint32_t die;
 } input;
 
-// The calls of one program, what it answered, and what it left.
+// As a case, on the list and the bytes that it may write to.
+static struct test_case as_case(uint16_t *numbers, uint8_t *bytes) {
+  return (struct test_case){
+      input.call, input.die, map_lent(&input.first), map_lent(&input.second),
+      {numbers, input.length}, input.drawer.count, {bytes, input.drawer.length}};
+}
+
+// What one program answered, and what it left.
 struct side {
-  struct second_verdict (*check)(struct second_map);
-  struct second_signed (*sign)(struct second_map, uint16_t *, size_t);
-  struct second_verdict (*match)(struct second_map, struct second_map, uint16_t *, size_t);
-  struct second_verdict (*judge)(struct second_map, struct second_map, const uint16_t *, size_t);
-  struct second_verdict (*drawer)(uint64_t, const uint8_t *, size_t);
-  struct second_found (*find)(struct second_map, uint64_t, const uint8_t *, size_t);
-  struct second_filed (*add)(uint32_t, struct second_map, uint64_t, uint8_t *, size_t);
-  uint64_t answer[ANSWER_NUMBERS];
+  struct answer answer;
   uint16_t numbers[TABLE_ROOM];
   uint8_t bytes[DRAWER_ROOM];
 };
 
-static struct side second = {.check = second_check,
-                             .sign = second_sign,
-                             .match = second_match,
-                             .judge = second_judge,
-                             .drawer = second_drawer,
-                             .find = second_find,
-                             .add = second_add};
-static struct side library = {.check = library_check,
-                              .sign = library_sign,
-                              .match = library_match,
-                              .judge = library_judge,
-                              .drawer = library_drawer,
-                              .find = library_find,
-                              .add = library_add};
+static struct side second;
+static struct side library;
 
-static void hold(struct side *side, uint64_t number, uint64_t place, uint64_t third,
-                 uint64_t fourth) {
-  const uint64_t answer[ANSWER_NUMBERS] = {number, place, third, fourth};
-  memcpy(side->answer, answer, sizeof answer);
-}
-
-static void hold_verdict(struct side *side, struct second_verdict verdict) {
-  hold(side, verdict.number, verdict.place, 0, 0);
-}
-
-static void ask(struct side *side) {
-  struct second_map map = map_lent(&input.first);
-  struct second_map other = map_lent(&input.second);
-  uint64_t count = input.drawer.count;
-  size_t bytes = input.drawer.length;
+static void ask(struct side *side, struct answer (*program)(const struct test_case *asked)) {
   memcpy(side->numbers, input.numbers, input.length * sizeof input.numbers[0]);
-  memcpy(side->bytes, input.drawer.bytes, bytes);
-  switch (input.call) {
-  case CHECK:
-    hold_verdict(side, side->check(map));
-    break;
-  case SIGN: {
-    struct second_signed answer = side->sign(map, side->numbers, input.length);
-    hold(side, answer.number, answer.place, answer.start, answer.symmetries);
-    break;
-  }
-  case MATCH:
-    hold_verdict(side, side->match(map, other, side->numbers, input.length));
-    break;
-  case JUDGE:
-    hold_verdict(side, side->judge(map, other, side->numbers, input.length));
-    break;
-  case DRAWER:
-    hold_verdict(side, side->drawer(count, side->bytes, bytes));
-    break;
-  case FIND: {
-    struct second_found answer = side->find(map, count, side->bytes, bytes);
-    hold(side, answer.number, answer.place, answer.die, answer.record);
-    break;
-  }
-  default: {
-    struct second_filed answer = side->add(input.die, map, count, side->bytes, bytes);
-    hold(side, answer.number, answer.place, answer.count, 0);
-  }
-  }
+  memcpy(side->bytes, input.drawer.bytes, input.drawer.length);
+  struct test_case asked = as_case(side->numbers, side->bytes);
+  side->answer = program(&asked);
 }
 
 static bool sides_agree(void) {
-  return memcmp(second.answer, library.answer, sizeof second.answer) == 0 &&
+  return memcmp(second.answer.numbers, library.answer.numbers, sizeof second.answer.numbers) == 0 &&
          same_numbers(second.numbers, library.numbers, input.length) &&
          memcmp(second.bytes, library.bytes, input.drawer.length) == 0;
 }
 
-// As a case, so that both programs can be asked again.
+// So that both programs can be asked again.
 static void print_input(void) {
-  printf("%s", words[input.call]);
-  if (input.call == ADD) {
-    printf(" %" PRIu32, input.die);
-  }
-  if (input.call != DRAWER) {
-    print_map(&input.first);
-  }
-  if (input.call == MATCH || input.call == JUDGE) {
-    print_map(&input.second);
-  }
-  if (input.call == SIGN || input.call == MATCH || input.call == JUDGE) {
-    print_numbers(input.numbers, input.length);
-  }
-  if (input.call >= DRAWER) {
-    printf(" %" PRIu64, input.drawer.count);
-    print_bytes(input.drawer.bytes, input.drawer.length);
-  }
-  printf("\n");
+  struct test_case asked = as_case(input.numbers, input.drawer.bytes);
+  print_case(&asked);
 }
 
 static void print_answer(const char *name, const struct side *side) {
-  printf("  %s  %" PRIu64 " %" PRIu64 " %" PRIu64 " %" PRIu64 "\n", name, side->answer[0],
-         side->answer[1], side->answer[2], side->answer[3]);
+  const uint64_t *numbers = side->answer.numbers;
+  printf("  %s  %" PRIu64 " %" PRIu64 " %" PRIu64 " %" PRIu64 "\n", name, numbers[0], numbers[1],
+         numbers[2], numbers[3]);
 }
 
 // ---- Maps ----
@@ -403,16 +336,16 @@ static void draw_drawer(void) {
 // ---- All inputs ----
 
 static bool compare(uint64_t inputs) {
-  static struct given given[CALLS];
+  static struct given given[ASKED_CALLS];
   uint64_t differ = 0;
   for (uint64_t at = 0; at < inputs; at++) {
-    input.call = (enum call)(at % CALLS);
+    input.call = (enum call)(at % ASKED_CALLS);
     input.first = input.call >= MATCH && one_in(2) ? right_map() : any_map();
     draw_numbers();
     draw_drawer();
-    ask(&second);
-    ask(&library);
-    count_given(&given[input.call], (unsigned)second.answer[0]);
+    ask(&second, ask_second);
+    ask(&library, ask_library);
+    count_given(&given[input.call], (unsigned)second.answer.numbers[0]);
     if (!sides_agree() && differ++ < MOST_PRINTED) {
       printf("FAILED input %" PRIu64 ": ", at + 1);
       print_input();
@@ -421,8 +354,8 @@ static bool compare(uint64_t inputs) {
     }
   }
   bool all = true;
-  for (enum call call = CHECK; call < CALLS; call++) {
-    all = all_given(words[call], &given[call], wanted[call]) && all;
+  for (int call = CHECK; call < ASKED_CALLS; call++) {
+    all = all_given(call_words[call], &given[call], wanted[call]) && all;
   }
   printf("%" PRIu64 " inputs agreed, %" PRIu64 " differ\n", inputs - differ, differ);
   return differ == 0 && all;

@@ -5,7 +5,8 @@
 #include <stdio.h>
 #include <string.h>
 
-#include "cases.h"
+#include "../cases/cases.h"
+#include "expect.h"
 #include "library.h"
 
 static uint64_t matched;
@@ -37,16 +38,16 @@ static bool same_verdicts(struct second_verdict one, struct second_verdict other
 // What one match answered, and the numbers of its output.
 struct asked {
   struct second_verdict verdict;
-  uint16_t images[MOST_NUMBERS + SPARE];
+  uint16_t images[MOST_ENTRIES + SPARE];
 };
 
 static struct asked ask_match(struct pair pair, size_t output_length) {
   struct asked asked;
-  leave_untouched(asked.images, MOST_NUMBERS + SPARE);
+  leave_untouched(asked.images, MOST_ENTRIES + SPARE);
   asked.verdict = library_match(pair.first, pair.second, asked.images, output_length);
   bool accepted = asked.verdict.number == 0;
   size_t written = accepted && pair.first.m <= output_length ? (size_t)pair.first.m : 0;
-  expect(all_untouched(asked.images + written, MOST_NUMBERS + SPARE - written), pair.first,
+  expect(all_untouched(asked.images + written, MOST_ENTRIES + SPARE - written), pair.first,
          accepted ? "the output is changed beyond its first m numbers"
                   : "the output is changed by a refusal");
   return asked;
@@ -58,11 +59,11 @@ static struct second_verdict ask_judge(struct pair pair, const uint16_t *list, s
 
 // Wants accepted maps of one size: their signatures say whether they are the same layout.
 static bool same_signatures(struct pair pair) {
-  uint16_t first[MOST_NUMBERS];
-  uint16_t second[MOST_NUMBERS];
+  uint16_t first[MOST_ENTRIES];
+  uint16_t second[MOST_ENTRIES];
   size_t length = pair.first.length;
-  library_sign(pair.first, first, MOST_NUMBERS);
-  library_sign(pair.second, second, MOST_NUMBERS);
+  library_sign(pair.first, first, MOST_ENTRIES);
+  library_sign(pair.second, second, MOST_ENTRIES);
   return same_numbers(first, second, length);
 }
 
@@ -70,7 +71,7 @@ static bool same_signatures(struct pair pair) {
 
 static void turn_shown(struct pair pair, const uint16_t *images) {
   size_t m = (size_t)pair.first.m;
-  uint16_t inverse[MOST_NUMBERS] = {0};
+  uint16_t inverse[MOST_ENTRIES] = {0};
   expect(is_verdict(ask_judge(pair, images, m), 0, 0), pair.first,
          "the list that the match shows is refused");
   for (size_t dart = 1; dart <= m; dart++) {
@@ -95,7 +96,7 @@ static void turn_output_length(struct pair pair, const uint16_t *images) {
 
 // Dart 1 goes to the least dart, which is dart 1 here; the sewings then leave no choice.
 static void turn_to_itself(struct second_map map) {
-  struct asked asked = ask_match((struct pair){map, map}, MOST_NUMBERS);
+  struct asked asked = ask_match((struct pair){map, map}, MOST_ENTRIES);
   expect(is_verdict(asked.verdict, 0, 0), map, "refused against itself");
   bool stays = true;
   for (size_t dart = 1; dart <= map.m; dart++) {
@@ -106,18 +107,15 @@ static void turn_to_itself(struct second_map map) {
 
 // The names that made the copy are a matching too, shown or not.
 static void turn_to_renumbered(struct second_map map) {
-  uint16_t names[MOST_NUMBERS + 1];
-  uint16_t renumbered[MOST_NUMBERS];
-  draw_names(map.m, names);
-  renumber(map, names, renumbered);
-  struct pair pair = {map, map};
-  pair.second.table = renumbered;
-  struct asked asked = ask_match(pair, MOST_NUMBERS);
+  uint16_t names[TABLE_ROOM];
+  struct map copy = renumbered(map, names);
+  struct pair pair = {map, map_lent(&copy)};
+  struct asked asked = ask_match(pair, MOST_ENTRIES);
   expect(is_verdict(asked.verdict, 0, 0), map, "refused against a renumbered copy");
-  expect(asked.images[0] <= names[1], map, "dart 1 goes higher than it need");
+  expect(asked.images[0] <= names[0], map, "dart 1 goes higher than it need");
   expect(is_verdict(ask_judge(pair, asked.images, (size_t)map.m), 0, 0), map,
          "the list shown for a renumbered copy is refused");
-  expect(is_verdict(ask_judge(pair, names + 1, (size_t)map.m), 0, 0), map,
+  expect(is_verdict(ask_judge(pair, names, (size_t)map.m), 0, 0), map,
          "the new names are refused as a list");
 }
 
@@ -125,7 +123,7 @@ static void turn_to_renumbered(struct second_map map) {
 
 static void turn_list_length(struct pair pair, const uint16_t *images) {
   size_t m = (size_t)pair.first.m;
-  uint16_t longer[MOST_NUMBERS + 1];
+  uint16_t longer[MOST_ENTRIES + 1];
   memcpy(longer, images, m * sizeof longer[0]);
   longer[m] = 0;
   expect(is_verdict(ask_judge(pair, longer, m + 1), 11, 0), pair.first,
@@ -135,7 +133,7 @@ static void turn_list_length(struct pair pair, const uint16_t *images) {
 }
 
 static void expect_no_image(struct pair pair, const uint16_t *images, size_t dart, uint64_t image) {
-  uint16_t list[MOST_NUMBERS];
+  uint16_t list[MOST_ENTRIES];
   memcpy(list, images, pair.first.m * sizeof list[0]);
   list[dart - 1] = (uint16_t)image;
   expect(is_verdict(ask_judge(pair, list, (size_t)pair.first.m), 11, dart), pair.first,
@@ -144,7 +142,7 @@ static void expect_no_image(struct pair pair, const uint16_t *images, size_t dar
 
 // Darts swapped may be alike, so the second program says what is right.
 static void turn_to_swapped(struct pair pair, const uint16_t *images, size_t one, size_t other) {
-  uint16_t list[MOST_NUMBERS];
+  uint16_t list[MOST_ENTRIES];
   size_t m = (size_t)pair.first.m;
   memcpy(list, images, m * sizeof list[0]);
   list[one - 1] = images[other - 1];
@@ -170,7 +168,7 @@ static void turn_images(struct pair pair, const uint16_t *images) {
 
 static void turn_matched(struct pair pair, const uint16_t *images) {
   matched++;
-  expect(ask_match(turned_about(pair), MOST_NUMBERS).verdict.number == 0, pair.first,
+  expect(ask_match(turned_about(pair), MOST_ENTRIES).verdict.number == 0, pair.first,
          "no match when turned about");
   turn_shown(pair, images);
   turn_output_length(pair, images);
@@ -183,7 +181,7 @@ static void turn_matched(struct pair pair, const uint16_t *images) {
 // Every one-to-one list must fail at some dart; the one that moves no dart stands for them all.
 static void turn_unmatched(struct pair pair) {
   unmatched++;
-  uint16_t unmoved[MOST_NUMBERS];
+  uint16_t unmoved[MOST_ENTRIES];
   size_t m = (size_t)pair.first.m;
   for (size_t dart = 1; dart <= m; dart++) {
     unmoved[dart - 1] = (uint16_t)dart;
@@ -209,7 +207,7 @@ static struct second_verdict refusal_of_maps(struct pair pair) {
 }
 
 static void turn(struct pair pair) {
-  struct asked asked = ask_match(pair, MOST_NUMBERS + SPARE);
+  struct asked asked = ask_match(pair, MOST_ENTRIES + SPARE);
   struct second_verdict refusal = refusal_of_maps(pair);
   if (refusal.number != 0) {
     expect(same_verdicts(asked.verdict, refusal), pair.first,
@@ -234,16 +232,17 @@ static void turn(struct pair pair) {
 }
 
 int main(void) {
-  // The case's own output is left unread: `answers` prints what becomes of it.
-  while (next_case("match")) {
-    struct second_map first = read_map();
-    struct second_map second = read_map();
-    turn((struct pair){first, second});
-    drop_map(first);
-    drop_map(second);
+  struct test_case asked;
+  while (read_case(&asked, NULL)) {
+    // The case's own output is left alone: `answers` prints what becomes of it.
+    if (asked.call == MATCH) {
+      count_case();
+      turn((struct pair){asked.first, asked.second});
+    }
+    drop_case(&asked);
   }
   printf("%" PRIu64 " pairs matched and %" PRIu64 " of one size did not, of %" PRIu64 " cases\n",
-         matched, unmatched, cases_read());
+         matched, unmatched, cases_counted());
   // Without both kinds something was not turned.
   if (matched == 0 || unmatched == 0) {
     printf("FAILED: no pair matched, or none did not\n");

@@ -7,11 +7,14 @@
 #include <string.h>
 
 #include "../../include/duftheim.h"
-#include "../second/generate_maps.h"
-#include "cases.h"
+#include "../maps/changes.h"
+#include "../maps/families.h"
+#include "../maps/records.h"
+#include "expect.h"
 #include "library.h"
 
-enum { RECORD = DUFTHEIM_RECORD_SIZE, MOST_RECORDS = DUFTHEIM_MOST_RECORDS };
+_Static_assert(RECORD_BYTES == DUFTHEIM_RECORD_SIZE, "records are as long as the header says");
+_Static_assert((int)MOST_RECORDS == DUFTHEIM_MOST_RECORDS, "as many as the header says");
 
 // A layout is its n, its m and its signature.
 struct entry {
@@ -34,28 +37,6 @@ static uint64_t runs;
 static struct given checks;
 static struct given searches;
 static struct given filings;
-
-// ---- Records ----
-
-static void put_number(uint8_t *at, size_t bytes, uint32_t number) {
-  for (size_t byte = 0; byte < bytes; byte++) {
-    at[byte] = (uint8_t)(number >> 8 * byte);
-  }
-}
-
-static void put_record(uint8_t *at, const struct entry *entry) {
-  memset(at, 0, RECORD);
-  put_number(at, 4, entry->die);
-  put_number(at + 4, 1, (uint32_t)entry->layout.n);
-  put_number(at + 6, 2, (uint32_t)entry->layout.m);
-  for (size_t k = 0; k < entry->layout.length; k++) {
-    put_number(at + 8 + 2 * k, 2, entry->layout.table[k]);
-  }
-}
-
-static uint8_t *record_at(uint8_t *bytes, size_t record) {
-  return bytes + (record - 1) * RECORD;
-}
 
 // ---- The plain list ----
 
@@ -90,11 +71,16 @@ static size_t record_of_die(const struct run *run, size_t count, uint32_t die) {
   return 0;
 }
 
+static void put_entry(uint8_t *at, const struct run *run, size_t record) {
+  const struct entry *entry = &run->list[record - 1];
+  put_record(at, entry->die, map_lent(&entry->layout));
+}
+
 static void add_to_list(struct run *run, uint32_t die, const struct map *layout) {
   struct entry *entry = &run->list[run->count++];
   entry->die = die;
   entry->layout = *layout;
-  put_record(record_at(run->right, run->count), entry);
+  put_record(record_at(run->right, run->count), die, map_lent(layout));
 }
 
 // ---- What is right ----
@@ -106,7 +92,7 @@ struct lent {
 };
 
 static struct second_verdict right_of_drawer(const struct run *run, struct lent lent) {
-  if (lent.count > MOST_RECORDS || lent.count > lent.length / RECORD) {
+  if (lent.count > MOST_RECORDS || lent.count > lent.length / RECORD_BYTES) {
     return (struct second_verdict){13, 0};
   }
   if (run->bad != 0 && run->bad <= lent.count) {
@@ -155,7 +141,7 @@ static struct second_filed right_filing(const struct run *run, uint32_t die, con
   if (with_layout != 0) {
     return filing_refused(17, with_layout);
   }
-  if (lent.count == MOST_RECORDS || lent.length / RECORD == lent.count) {
+  if (lent.count == MOST_RECORDS || lent.length / RECORD_BYTES == lent.count) {
     return filing_refused(18, 0);
   }
   return (struct second_filed){0, 0, lent.count + 1};
@@ -179,10 +165,10 @@ static void expect_own_bytes(const struct run *run, const struct map *map, size_
     expect(bytes == NULL, map_lent(map), "a refusal hands back a record");
     return;
   }
-  uint8_t own[RECORD];
-  put_record(own, &run->list[record - 1]);
-  expect(bytes == record_at(run->drawer, record) && memcmp(bytes, own, RECORD) == 0, map_lent(map),
-         "not the record's own bytes");
+  uint8_t own[RECORD_BYTES];
+  put_entry(own, run, record);
+  expect(bytes == record_at(run->drawer, record) && memcmp(bytes, own, RECORD_BYTES) == 0,
+         map_lent(map), "not the record's own bytes");
 }
 
 static void ask_search(const struct run *run, const struct map *map, struct lent lent) {
@@ -244,12 +230,12 @@ static uint32_t any_die(const struct run *run) {
 // Counts that the lent bytes have no room for, those among them whose bytes wrap around.
 static size_t wrong_count(const struct run *run) {
   const size_t wrong[] = {
-      run->length / RECORD + 1,
+      run->length / RECORD_BYTES + 1,
       MOST_RECORDS + 1,
       SIZE_MAX,
-      SIZE_MAX / RECORD,
-      SIZE_MAX / RECORD + 1,
-      SIZE_MAX / RECORD + 1 + run->count,
+      SIZE_MAX / RECORD_BYTES,
+      SIZE_MAX / RECORD_BYTES + 1,
+      SIZE_MAX / RECORD_BYTES + 1 + run->count,
       SIZE_MAX / 2 + 1 + run->count,
       65536 + run->count,
   };
@@ -265,7 +251,7 @@ static struct lent any_lent(const struct run *run, bool writes) {
     lent.count = wrong_count(run);
     break;
   case 1:
-    lent.length = run->count * RECORD;
+    lent.length = run->count * RECORD_BYTES;
     break;
   case 2:
     lent.length = (size_t)chance_below(&chance, run->length + 1);
@@ -299,26 +285,27 @@ static void spoil(const struct run *run, uint8_t *record, uint64_t way) {
   size_t earlier = run->bad == 1 ? 1 : 1 + (size_t)chance_below(&chance, run->bad - 1);
   switch (run->bad == 1 ? way % 5 : way) {
   case 0:
-    put_number(record, 4, 0);
+    put_die(record, 0);
     break;
   case 1:
-    put_number(record + 4, 1, 5);
+    record[RECORD_N_AT] = 5;
     break;
   case 2:
-    put_number(record + 5, 1, 1);
+    record[RECORD_ZERO_AT] = 1;
     break;
   case 3:
-    put_number(record + 6, 2, 0);
+    put_16(record + RECORD_M_AT, 0);
     break;
   case 4:
     // The filling, or in a word of 1,020 numbers a dart that is not there.
-    put_number(record + RECORD - 1, 1, 255);
+    record[RECORD_BYTES - 1] = 255;
     break;
   case 5:
-    put_number(record, 4, run->list[earlier - 1].die);
+    put_die(record, run->list[earlier - 1].die);
     break;
   default:
-    memcpy(record + 4, record_at(run->right, earlier) + 4, RECORD - 4);
+    memcpy(record + RECORD_N_AT, record_at(run->right, earlier) + RECORD_N_AT,
+           RECORD_BYTES - RECORD_N_AT);
   }
 }
 
@@ -327,10 +314,10 @@ static void ask_spoiled(struct run *run, uint64_t most_entries) {
   run->bad = any_record(run);
   uint8_t *record = record_at(run->right, run->bad);
   spoil(run, record, chance_below(&chance, 7));
-  memcpy(record_at(run->drawer, run->bad), record, RECORD);
+  memcpy(record_at(run->drawer, run->bad), record, RECORD_BYTES);
   ask_any(run, most_entries);
-  put_record(record, &run->list[run->bad - 1]);
-  memcpy(record_at(run->drawer, run->bad), record, RECORD);
+  put_entry(record, run, run->bad);
+  memcpy(record_at(run->drawer, run->bad), record, RECORD_BYTES);
   run->bad = 0;
 }
 
@@ -397,7 +384,7 @@ static struct map small_unfiled_map(const struct run *run) {
 // are filed, and one too many. There is room for it: only the count stands against it.
 static void run_to_full(void) {
   enum { BY_HAND = MOST_RECORDS - 3 };
-  struct run *run = start_run((MOST_RECORDS + 1) * RECORD + 5);
+  struct run *run = start_run((MOST_RECORDS + 1) * RECORD_BYTES + 5);
   struct lent lent = {0, run->length};
   uint32_t die = 1000;
   while (run->count < BY_HAND) {
@@ -405,7 +392,7 @@ static void run_to_full(void) {
     struct map layout = layout_of(&map);
     add_to_list(run, die++, &layout);
   }
-  memcpy(run->drawer, run->right, BY_HAND * RECORD);
+  memcpy(run->drawer, run->right, BY_HAND * RECORD_BYTES);
   for (int time = 0; time < 4; time++) {
     struct map map = small_unfiled_map(run);
     lent.count = run->count;
@@ -424,12 +411,12 @@ static void run_to_full(void) {
 int main(void) {
   for (size_t records = 0; records <= 12; records++) {
     for (int time = 0; time < 8; time++) {
-      run_from_empty(records * RECORD + (size_t)chance_below(&chance, RECORD), 60, 40);
+      run_from_empty(records * RECORD_BYTES + (size_t)chance_below(&chance, RECORD_BYTES), 60, 40);
     }
   }
-  run_from_empty(64 * RECORD, 250, 24);
+  run_from_empty(64 * RECORD_BYTES, 250, 24);
   run_to_full();
-  printf("%" PRIu64 " calls in %" PRIu64 " runs\n", cases_read(), runs);
+  printf("%" PRIu64 " calls in %" PRIu64 " runs\n", cases_counted(), runs);
   bool all = all_given("check", &checks, "x............xx");
   all = all_given("search", &searches, "xxxx.xxxxx...xxx") && all;
   all = all_given("filing", &filings, "xxxx.xxxxx...xx.xxx") && all;

@@ -4,8 +4,9 @@
 #include <inttypes.h>
 #include <stdio.h>
 
+#include "../cases/cases.h"
 #include "../second/second_inside.h"
-#include "cases.h"
+#include "expect.h"
 #include "library.h"
 
 enum { RENUMBERINGS = 4 };
@@ -17,16 +18,16 @@ static uint64_t accepted_maps;
 // What one call answered, and the output that it was lent a part of.
 struct asked {
   struct second_signed answer;
-  uint16_t output[MOST_NUMBERS + SPARE];
+  uint16_t output[MOST_ENTRIES + SPARE];
 };
 
 static struct asked ask(struct second_map map, size_t lent) {
   struct asked asked;
-  leave_untouched(asked.output, MOST_NUMBERS + SPARE);
+  leave_untouched(asked.output, MOST_ENTRIES + SPARE);
   asked.answer = library_sign(map, asked.output, lent);
   // An accepted table has n * m numbers, as many as may be written.
   size_t written = asked.answer.number == 0 && map.length <= lent ? map.length : 0;
-  expect(all_untouched(asked.output + written, MOST_NUMBERS + SPARE - written), map,
+  expect(all_untouched(asked.output + written, MOST_ENTRIES + SPARE - written), map,
          "the output is changed where it must not be");
   return asked;
 }
@@ -39,7 +40,7 @@ static void turn_to_check(struct second_map map, struct second_signed answer) {
 }
 
 static bool is_start(struct second_map map, uint64_t start, const uint16_t *signature) {
-  uint16_t word[MOST_NUMBERS];
+  uint16_t word[MOST_ENTRIES];
   if (start < 1 || start > map.m) {
     return false;
   }
@@ -53,7 +54,7 @@ static bool is_start(struct second_map map, uint64_t start, const uint16_t *sign
 static void turn_to_signature(struct second_map map, const struct asked *asked) {
   struct second_map turned = map;
   turned.table = asked->output;
-  struct asked again = ask(turned, MOST_NUMBERS + SPARE);
+  struct asked again = ask(turned, MOST_ENTRIES + SPARE);
   expect(again.answer.number == 0, map, "the signature as a table is refused");
   expect(same_numbers(again.output, asked->output, map.length), map,
          "the signature has another signature");
@@ -63,13 +64,10 @@ static void turn_to_signature(struct second_map map, const struct asked *asked) 
 }
 
 static void turn_to_renumbered(struct second_map map, const struct asked *asked) {
-  uint16_t names[MOST_NUMBERS + 1];
-  uint16_t renumbered[MOST_NUMBERS];
-  draw_names(map.m, names);
-  renumber(map, names, renumbered);
-  struct second_map turned = map;
-  turned.table = renumbered;
-  struct asked again = ask(turned, MOST_NUMBERS + SPARE);
+  uint16_t names[TABLE_ROOM];
+  struct map copy = renumbered(map, names);
+  struct second_map turned = map_lent(&copy);
+  struct asked again = ask(turned, MOST_ENTRIES + SPARE);
   expect(again.answer.number == 0, map, "refused when renumbered");
   expect(same_numbers(again.output, asked->output, map.length), map,
          "another signature when renumbered");
@@ -96,7 +94,7 @@ static void turn_output_length(struct second_map map, const struct asked *asked)
 }
 
 static void turn(struct second_map map) {
-  struct asked asked = ask(map, MOST_NUMBERS + SPARE);
+  struct asked asked = ask(map, MOST_ENTRIES + SPARE);
   turn_to_check(map, asked.answer);
   bool accepted = asked.answer.number == 0;
   bool acceptable = second_check(map).number == 0;
@@ -121,13 +119,16 @@ static void turn(struct second_map map) {
 }
 
 int main(void) {
-  // The case's own output is left unread: `answers` prints what becomes of it.
-  while (next_case("sign")) {
-    struct second_map map = read_map();
-    turn(map);
-    drop_map(map);
+  struct test_case asked;
+  while (read_case(&asked, NULL)) {
+    // The case's own output is left alone: `answers` prints what becomes of it.
+    if (asked.call == SIGN) {
+      count_case();
+      turn(asked.first);
+    }
+    drop_case(&asked);
   }
-  printf("%" PRIu64 " maps accepted of %" PRIu64 " cases\n", accepted_maps, cases_read());
+  printf("%" PRIu64 " maps accepted of %" PRIu64 " cases\n", accepted_maps, cases_counted());
   // Without an accepted map nothing was turned.
   if (accepted_maps == 0) {
     printf("FAILED: no map was accepted\n");

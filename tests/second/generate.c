@@ -244,6 +244,14 @@ static bool print_kind(const char *kind, uint64_t seed, uint64_t count) {
     print_large_pairs(&chance);
   } else if (strcmp(kind, "tiny-pairs") == 0) {
     print_tiny_pairs(&chance);
+  } else if (strcmp(kind, "symmetric") == 0) {
+    print_symmetric(&chance, count);
+  } else if (strcmp(kind, "symmetric-pairs") == 0) {
+    print_symmetric_pairs(&chance);
+  } else if (strcmp(kind, "symmetric-drawers") == 0) {
+    print_symmetric_drawers(&chance);
+  } else if (strcmp(kind, "symmetric-records") == 0) {
+    write_symmetric_records(&chance);
   } else if (strcmp(kind, "records") == 0) {
     write_records(&chance, count);
   } else if (strcmp(kind, "bench") == 0) {
@@ -284,7 +292,8 @@ int main(int argc, char **argv) {
   if (!understood || !print_kind(argv[2], seed, count)) {
     fprintf(stderr,
             "usage: generate SEED KIND [COUNT], COUNT up to 1000000, KIND one of\n"
-            "check sign match judge drawer each-drawer large large-pairs tiny tiny-pairs records\n"
+            "check sign match judge drawer each-drawer large large-pairs tiny tiny-pairs\n"
+            "symmetric symmetric-pairs symmetric-drawers symmetric-records records\n"
             "bench bench-sign bench-match\n");
     return 2;
   }

@@ -1,25 +1,21 @@
-// Lines of the case form, shares of a mixture, and the kinds of output that the generator has.
+// Cases of the generator, shares of a mixture, and the kinds of output that it has.
 #ifndef GENERATE_H
 #define GENERATE_H
 
-#include "generate_maps.h"
-
-// A list as the case form has it: its length, then its numbers, long runs as V*K.
-void print_numbers(const uint16_t *numbers, size_t length);
-void print_bytes(const uint8_t *bytes, size_t length);
-void print_map(const struct map *map);
+#include "../cases/cases.h"
+#include "../maps/changes.h"
+#include "../maps/families.h"
+#include "../maps/numberings.h"
 
 // A lent output before the call: one marker value all over, of a length near the one needed.
 enum output_length { OUTPUT_EXACT, OUTPUT_LONGER, OUTPUT_SHORT };
 enum output_length any_output_length(struct chance *chance);
-void print_output(struct chance *chance, size_t needed, enum output_length length);
 
 void print_check(const struct map *map);
 void print_sign(struct chance *chance, const struct map *map, enum output_length length);
 void print_match(struct chance *chance, const struct map *first, const struct map *second,
                  enum output_length length);
-void print_judge(const struct map *first, const struct map *second, const uint16_t *list,
-                 size_t length);
+void print_judge(const struct map *first, const struct map *second, uint16_t *list, size_t length);
 
 // How many of `count` cases fall to the group that weighs `weight` after `before`, of `total`.
 uint64_t share(uint64_t count, uint64_t before, uint64_t weight, uint64_t total);
@@ -37,7 +33,22 @@ void print_each_drawer(struct chance *chance);
 void print_large_pairs(struct chance *chance);
 void print_tiny_pairs(struct chance *chance);
 
+// Matches of a map with a renumbered copy, with another map and with one sewing changed, and lists.
+void print_pairs_of(struct chance *chance, const struct map *map);
+
+// Symmetric maps in so many numberings, then as many of each with marks that some of its symmetries
+// keep; large ones in fewer.
+void print_symmetric(struct chance *chance, uint64_t numberings);
+// Each of these maps against its mirror image; small ones against copies, changed maps and each
+// other, too.
+void print_symmetric_pairs(struct chance *chance);
+// Drawers with all these layouts, good ones and ones with a word that is not the least.
+void print_symmetric_drawers(struct chance *chance);
+
 // Binary records for the layout lister, with a short end behind the last.
 void write_records(struct chance *chance, uint64_t count);
+
+// The symmetric maps as records, each renumbered.
+void write_symmetric_records(struct chance *chance);
 
 #endif

@@ -5,55 +5,21 @@
 #include "generate.h"
 #include "generate_drawers.h"
 
-static void print_lent(const struct drawer *drawer) {
-  printf(" %" PRIu64, drawer->count);
-  print_bytes(drawer->bytes, drawer->length);
-  printf("\n");
+void print_call(enum call call, uint32_t die, const struct map *map, const struct drawer *drawer) {
+  print_case(&(struct test_case){.call = call, .die = die, .first = map_lent(map),
+                                 .count = drawer->count,
+                                 .drawer = {drawer->bytes, drawer->length}});
 }
 
-static void print_drawer(const struct drawer *drawer) {
-  printf("drawer");
-  print_lent(drawer);
-}
+static const enum call drawer_calls[DRAWER_CALLS] = {DRAWER, FIND, RECORD, ADD};
 
-static void print_find(const struct map *map, const struct drawer *drawer) {
-  printf("find");
-  print_map(map);
-  print_lent(drawer);
-}
-
-static void print_record(const struct map *map, const struct drawer *drawer) {
-  printf("record");
-  print_map(map);
-  print_lent(drawer);
-}
-
-static void print_add(uint32_t die, const struct map *map, const struct drawer *drawer) {
-  printf("add %" PRIu32, die);
-  print_map(map);
-  print_lent(drawer);
-}
-
-void print_call(uint64_t turn, uint32_t die, const struct map *map, const struct drawer *drawer) {
-  switch (turn % DRAWER_CALLS) {
-  case 0:
-    print_drawer(drawer);
-    break;
-  case 1:
-    print_find(map, drawer);
-    break;
-  case 2:
-    print_record(map, drawer);
-    break;
-  default:
-    print_add(die, map, drawer);
+uint64_t print_calls(uint64_t most, uint32_t die, const struct map *map,
+                     const struct drawer *drawer) {
+  uint64_t printed = 0;
+  for (; printed < DRAWER_CALLS && printed < most; printed++) {
+    print_call(drawer_calls[printed], die, map, drawer);
   }
-}
-
-void print_calls(uint32_t die, const struct map *map, const struct drawer *drawer) {
-  for (uint64_t turn = 0; turn < DRAWER_CALLS; turn++) {
-    print_call(turn, die, map, drawer);
-  }
+  return printed;
 }
 
 static size_t any_spare(struct chance *chance) {
@@ -79,10 +45,10 @@ static void print_good(struct chance *chance, uint64_t cases) {
       filed = filed_map(chance, &drawer, 1 + chance_below(chance, drawer.count));
     }
     uint32_t die = unfiled_die(chance, &drawer);
-    // The four calls with one layout, then search and the record with the other.
+    // The calls that write nothing with one layout, then filing, search and record with the other.
+    static const enum call turns[] = {DRAWER, FIND, RECORD, ADD, FIND, RECORD};
     for (uint64_t turn = 0; turn < 6 && k < cases; turn++, k++) {
-      const struct map *map = turn < 3 ? &filed : &unfiled;
-      print_call(turn < 4 ? turn : turn - 3, die, map, &drawer);
+      print_call(turns[turn], die, turn < 3 ? &filed : &unfiled, &drawer);
     }
     drawer_free(&drawer);
   }
@@ -103,9 +69,7 @@ static void print_alike(struct chance *chance, uint64_t cases) {
       drawer_file(chance, &drawer, wanted);
     }
     uint32_t die = unfiled_die(chance, &drawer);
-    for (uint64_t turn = 0; turn < 4 && k < cases; turn++, k++) {
-      print_call(turn, die, wanted, &drawer);
-    }
+    k += print_calls(cases - k, die, wanted, &drawer);
     drawer_free(&drawer);
   }
 }
@@ -119,9 +83,7 @@ static void print_behind_count(struct chance *chance, uint64_t cases) {
     struct map map = filed_map(chance, &drawer, behind);
     uint32_t die = record_die(drawer_record(&drawer, behind));
     drawer.count = chance_below(chance, behind);
-    for (uint64_t turn = 0; turn < 4 && k < cases; turn++, k++) {
-      print_call(turn, die, &map, &drawer);
-    }
+    k += print_calls(cases - k, die, &map, &drawer);
     drawer_free(&drawer);
   }
 }
@@ -158,9 +120,7 @@ static void print_spoiled(struct chance *chance, uint64_t cases) {
       spoil_some_other(chance, &drawer);
     }
     uint32_t die = chance_one_in(chance, 3) ? 0 : unfiled_die(chance, &drawer);
-    for (uint64_t turn = 0; turn < 4 && k < cases; turn++, k++) {
-      print_call(turn, die, &wanted, &drawer);
-    }
+    k += print_calls(cases - k, die, &wanted, &drawer);
     drawer_free(&drawer);
   }
 }
@@ -181,9 +141,7 @@ static void print_bad_counts(struct chance *chance, uint64_t cases) {
       drawer.count = bad_count(which, &drawer);
     }
     uint32_t die = (uint32_t)chance_below(chance, 3);
-    for (uint64_t turn = 0; turn < 4 && k < cases; turn++, k++) {
-      print_call(turn, die, &map, &drawer);
-    }
+    k += print_calls(cases - k, die, &map, &drawer);
     drawer_free(&drawer);
   }
 }
@@ -202,7 +160,7 @@ static void print_refused_maps(struct chance *chance, uint64_t cases) {
     }
     uint32_t die = (uint32_t)chance_below(chance, 3);
     // Filing and search by turns, the record of a refused map now and then.
-    static const uint64_t turns[] = {3, 1, 3, 1, 2};
+    static const enum call turns[] = {ADD, FIND, ADD, FIND, RECORD};
     for (uint64_t call = 0; call < 2 && k < cases; call++, k++) {
       print_call(turns[k % 5], die, &map, &drawer);
     }
@@ -260,7 +218,7 @@ static void print_filing(struct chance *chance, const struct filing *filing) {
     spoil_record(chance, &drawer, record, SPOIL_ZERO_BYTE);
   }
   printf("# filing: %s\n", filing->comment);
-  print_add(filing->die_zero ? 0 : die, &map, &drawer);
+  print_call(ADD, filing->die_zero ? 0 : die, &map, &drawer);
   drawer_free(&drawer);
 }
 
@@ -279,38 +237,38 @@ static void print_full(struct chance *chance, struct drawer *drawer, uint64_t tu
   uint32_t new_die = unfiled_die(chance, drawer);
   switch (turn % 10) {
   case 0:
-    print_add(new_die, &unfiled, drawer);
+    print_call(ADD, new_die, &unfiled, drawer);
     break;
   case 1:
     drawer->count = MOST_RECORDS - 1;
-    print_add(new_die, &unfiled, drawer);
+    print_call(ADD, new_die, &unfiled, drawer);
     break;
   case 2:
-    print_add(last_die, &unfiled, drawer);
+    print_call(ADD, last_die, &unfiled, drawer);
     break;
   case 3:
-    print_add(new_die, &last, drawer);
+    print_call(ADD, new_die, &last, drawer);
     break;
   case 4:
-    print_find(&last, drawer);
+    print_call(FIND, 0, &last, drawer);
     break;
   case 5:
     drawer->count = MOST_RECORDS + 1;
-    print_drawer(drawer);
+    print_call(DRAWER, 0, &last, drawer);
     break;
   case 6:
-    print_drawer(drawer);
+    print_call(DRAWER, 0, &last, drawer);
     break;
   case 7:
-    print_record(&last, drawer);
+    print_call(RECORD, 0, &last, drawer);
     break;
   case 8:
     drawer->count = MOST_RECORDS - 1;
-    print_find(&last, drawer);
+    print_call(FIND, 0, &last, drawer);
     break;
   default:
     put_die(drawer_record(drawer, MOST_RECORDS), record_die(drawer_record(drawer, 1)));
-    print_drawer(drawer);
+    print_call(DRAWER, 0, &last, drawer);
     put_die(drawer_record(drawer, MOST_RECORDS), last_die);
   }
   drawer->count = MOST_RECORDS;
@@ -328,7 +286,8 @@ static void print_fulls(struct chance *chance, uint64_t cases) {
   printf("# full drawers of 1,024 records, one more record behind them\n");
   struct drawer drawer = packed_drawer(chance, MOST_RECORDS, RECORD_BYTES);
   struct map map = unfiled_map(chance, &drawer);
-  put_record(drawer_record(&drawer, MOST_RECORDS + 1), unfiled_die(chance, &drawer), &map);
+  uint32_t die = unfiled_die(chance, &drawer);
+  put_record(drawer_record(&drawer, MOST_RECORDS + 1), die, map_lent(&map));
   for (uint64_t k = 0; k < cases; k++) {
     print_full(chance, &drawer, k);
   }
@@ -349,10 +308,10 @@ static void print_history(struct chance *chance, uint64_t cases) {
       die = record_die(drawer_record(&drawer, 1 + chance_below(chance, drawer.count)));
     }
     if (chance_one_in(chance, 4)) {
-      print_find(&map, &drawer);
+      print_call(FIND, 0, &map, &drawer);
       continue;
     }
-    print_add(die, &map, &drawer);
+    print_call(ADD, die, &map, &drawer);
     struct second_filed filed =
         second_add(die, map_lent(&map), drawer.count, drawer.bytes, drawer.length);
     if (filed.number == 0) {

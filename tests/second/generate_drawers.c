@@ -1,48 +1,15 @@
 // Builds drawers record by record, spoils single records, and gives counts that are wrong.
 #include "generate_drawers.h"
 
-#include <stdio.h>
 #include <stdlib.h>
 #include <string.h>
 
-static void put_16(uint8_t *at, uint16_t number) {
-  at[0] = (uint8_t)(number & 255);
-  at[1] = (uint8_t)(number >> 8);
-}
-
-static uint16_t get_16(const uint8_t *at) {
-  return (uint16_t)(at[0] | at[1] << 8);
-}
-
-void put_die(uint8_t *record, uint32_t die) {
-  put_16(record, (uint16_t)(die & 65535));
-  put_16(record + 2, (uint16_t)(die >> 16));
-}
-
-uint32_t record_die(const uint8_t *record) {
-  return get_16(record) | (uint32_t)get_16(record + 2) << 16;
-}
-
-void put_record(uint8_t *record, uint32_t die, const struct map *map) {
-  memset(record, 0, RECORD_BYTES);
-  put_die(record, die);
-  record[RECORD_N_AT] = (uint8_t)map->n;
-  put_16(record + RECORD_M_AT, (uint16_t)map->m);
-  for (size_t at = 0; at < map->length && at < MOST_ENTRIES; at++) {
-    put_16(record + RECORD_WORD_AT + 2 * at, map->table[at]);
-  }
-}
-
-struct map record_map(const uint8_t *record) {
-  struct map map = map_empty(record[RECORD_N_AT], get_16(record + RECORD_M_AT));
-  for (size_t at = 0; at < map.length && at < MOST_ENTRIES; at++) {
-    map.table[at] = get_16(record + RECORD_WORD_AT + 2 * at);
-  }
-  return map;
-}
+#include "../maps/changes.h"
+#include "../maps/families.h"
+#include "../maps/numberings.h"
 
 uint8_t *drawer_record(const struct drawer *drawer, uint64_t record) {
-  return drawer->bytes + (record - 1) * RECORD_BYTES;
+  return record_at(drawer->bytes, record);
 }
 
 static void fail(const char *what, unsigned number) {
@@ -115,16 +82,6 @@ struct drawer good_drawer(struct chance *chance, uint64_t count, size_t spare, b
   return drawer;
 }
 
-static bool layout_stands(const struct drawer *drawer, const uint8_t *record) {
-  for (uint64_t other = 1; other <= drawer->count; other++) {
-    if (memcmp(drawer_record(drawer, other) + RECORD_N_AT, record + RECORD_N_AT,
-               RECORD_BYTES - RECORD_N_AT) == 0) {
-      return true;
-    }
-  }
-  return false;
-}
-
 static struct map signature_of(const struct map *map) {
   struct map word = map_empty(map->n, map->m);
   struct second_signed answer = second_sign(map_lent(map), word.table, word.length);
@@ -141,8 +98,8 @@ struct drawer packed_drawer(struct chance *chance, uint64_t count, size_t spare)
     struct map map = accepted_map(chance, 2, 5 + chance_below(chance, 3));
     struct map word = signature_of(&map);
     uint8_t record[RECORD_BYTES];
-    put_record(record, (uint32_t)(3 * drawer.count + 7), &word);
-    if (!layout_stands(&drawer, record)) {
+    put_record(record, (uint32_t)(3 * drawer.count + 7), map_lent(&word));
+    if (!layout_stands(drawer.bytes, drawer.count, record)) {
       drawer.count++;
       memcpy(drawer_record(&drawer, drawer.count), record, RECORD_BYTES);
     }
@@ -164,8 +121,8 @@ struct map unfiled_map(struct chance *chance, const struct drawer *drawer) {
     struct map map = any_filed_map(chance);
     struct map word = signature_of(&map);
     uint8_t record[RECORD_BYTES];
-    put_record(record, 1, &word);
-    if (!layout_stands(drawer, record)) {
+    put_record(record, 1, map_lent(&word));
+    if (!layout_stands(drawer->bytes, drawer->count, record)) {
       return map;
     }
   }
@@ -242,20 +199,20 @@ static void spoil_word(struct chance *chance, uint8_t *record, enum spoil spoil)
   } else {
     map = map_shuffled(chance, &map);
   }
-  put_record(record, record_die(record), &map);
+  put_record(record, record_die(record), map_lent(&map));
 }
 
 static void spoil_sizes(struct chance *chance, uint8_t *record) {
   uint64_t entries = record_map(record).length;
   if (chance_one_in(chance, 2)) {
     put_16(record + RECORD_M_AT,
-           (uint16_t)(get_16(record + RECORD_M_AT) + (chance_one_in(chance, 2) ? 1 : -1)));
+           (uint64_t)get_16(record + RECORD_M_AT) + (chance_one_in(chance, 2) ? 1 : UINT64_MAX));
     return;
   }
   uint64_t n = 1 + chance_below(chance, 4);
   if (entries % n == 0) {
     record[RECORD_N_AT] = (uint8_t)n;
-    put_16(record + RECORD_M_AT, (uint16_t)(entries / n));
+    put_16(record + RECORD_M_AT, entries / n);
   }
 }
 
@@ -274,7 +231,7 @@ static void spoil_head(struct chance *chance, uint8_t *record, enum spoil spoil)
     break;
   case SPOIL_M_TOO_LARGE:
     put_16(record + RECORD_M_AT,
-           chance_one_in(chance, 2) ? UINT16_MAX : (uint16_t)(MOST_ENTRIES / n + 1));
+           chance_one_in(chance, 2) ? UINT16_MAX : MOST_ENTRIES / n + 1);
     break;
   default:
     record[RECORD_ZERO_AT] = any_nonzero_byte(chance);

@@ -2,12 +2,8 @@
 #ifndef GENERATE_DRAWERS_H
 #define GENERATE_DRAWERS_H
 
-#include "generate_maps.h"
-
-enum { RECORD_BYTES = 2048, MOST_RECORDS = 1024 };
-
-// Where the parts of a record stand; the die number is in front.
-enum { RECORD_N_AT = 4, RECORD_ZERO_AT = 5, RECORD_M_AT = 6, RECORD_WORD_AT = 8 };
+#include "../cases/cases.h"
+#include "../maps/records.h"
 
 // A lent drawer with the count it is handed in with. The bytes are freed with drawer_free.
 struct drawer {
@@ -16,14 +12,8 @@ struct drawer {
   uint8_t *bytes;
 };
 
-// Writes a whole record, the table as it stands, zeros behind it.
-void put_record(uint8_t *record, uint32_t die, const struct map *map);
-void put_die(uint8_t *record, uint32_t die);
-
-// Records count from 1. The map is the one of a good record: its word is a dart table too.
+// Records count from 1.
 uint8_t *drawer_record(const struct drawer *drawer, uint64_t record);
-uint32_t record_die(const uint8_t *record);
-struct map record_map(const uint8_t *record);
 
 // Both have `spare` bytes behind the counted records, of chance where `garbage` is set. The packed
 // one is filed without the reference calls, which take long on many records, and checked once.
@@ -68,10 +58,11 @@ bool spoil_record(struct chance *chance, struct drawer *drawer, uint64_t record,
 enum { BAD_COUNTS = 11 };
 uint64_t bad_count(uint64_t turn, const struct drawer *drawer);
 
-// Prints one call on the drawer, by turns: the check, search, the record handed back, filing; or
-// all of them.
+// Prints one call on the drawer; or up to so many in turn, the check, search, the record handed
+// back and filing, and says how many.
 enum { DRAWER_CALLS = 4 };
-void print_call(uint64_t turn, uint32_t die, const struct map *map, const struct drawer *drawer);
-void print_calls(uint32_t die, const struct map *map, const struct drawer *drawer);
+void print_call(enum call call, uint32_t die, const struct map *map, const struct drawer *drawer);
+uint64_t print_calls(uint64_t most, uint32_t die, const struct map *map,
+                     const struct drawer *drawer);
 
 #endif

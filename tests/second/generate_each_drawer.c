@@ -19,14 +19,14 @@ static void print_size(struct chance *chance, uint64_t count) {
   uint32_t die = unfiled_die(chance, &drawer);
   struct map unfiled = unfiled_map(chance, &drawer);
   printf("# a good drawer of %" PRIu64 " records\n", count);
-  print_calls(die, &unfiled, &drawer);
+  print_calls(DRAWER_CALLS, die, &unfiled, &drawer);
   if (count > 0) {
     struct map first = filed_map(chance, &drawer, 1);
     struct map last = filed_map(chance, &drawer, count);
-    print_calls(die, &first, &drawer);
-    print_calls(die, &last, &drawer);
-    print_call(3, record_die(drawer_record(&drawer, 1)), &unfiled, &drawer);
-    print_call(3, record_die(drawer_record(&drawer, count)), &unfiled, &drawer);
+    print_calls(DRAWER_CALLS, die, &first, &drawer);
+    print_calls(DRAWER_CALLS, die, &last, &drawer);
+    print_call(ADD, record_die(drawer_record(&drawer, 1)), &unfiled, &drawer);
+    print_call(ADD, record_die(drawer_record(&drawer, count)), &unfiled, &drawer);
   }
   drawer_free(&drawer);
 }
@@ -42,8 +42,8 @@ static void print_fault(struct chance *chance, enum spoil spoil, uint64_t bad) {
     bool spoiled = spoil_record(chance, &drawer, bad, spoil);
     if (spoiled) {
       printf("# record %" PRIu64 " of %d spoiled: %s\n", bad, SOME_RECORDS, spoil_name(spoil));
-      print_calls(die, &before, &drawer);
-      print_call(1, die, &behind, &drawer);
+      print_calls(DRAWER_CALLS, die, &before, &drawer);
+      print_call(FIND, die, &behind, &drawer);
     }
     drawer_free(&drawer);
     if (spoiled) {
@@ -61,10 +61,10 @@ static void print_full_fault(struct chance *chance, struct drawer *drawer, enum 
   uint32_t last_die = record_die(drawer_record(drawer, MOST_RECORDS));
   if (spoil_record(chance, drawer, MOST_RECORDS, spoil)) {
     printf("# the last of 1,024 records spoiled: %s\n", spoil_name(spoil));
-    print_call(0, 0, &first, drawer);
-    print_call(1, 0, &first, drawer);
+    print_call(DRAWER, 0, &first, drawer);
+    print_call(FIND, 0, &first, drawer);
   }
-  put_record(drawer_record(drawer, MOST_RECORDS), last_die, &last);
+  put_record(drawer_record(drawer, MOST_RECORDS), last_die, map_lent(&last));
 }
 
 static void print_full_drawer(struct chance *chance) {
@@ -74,19 +74,19 @@ static void print_full_drawer(struct chance *chance) {
   struct map last = filed_map(chance, &drawer, MOST_RECORDS);
   uint32_t die = unfiled_die(chance, &drawer);
   printf("# a good drawer of 1,024 records\n");
-  print_calls(die, &last, &drawer);
-  print_call(1, die, &first, &drawer);
-  print_call(1, die, &unfiled, &drawer);
-  print_call(3, die, &unfiled, &drawer);
+  print_calls(DRAWER_CALLS, die, &last, &drawer);
+  print_call(FIND, die, &first, &drawer);
+  print_call(FIND, die, &unfiled, &drawer);
+  print_call(ADD, die, &unfiled, &drawer);
   print_full_fault(chance, &drawer, SPOIL_LAST_FILLING);
   print_full_fault(chance, &drawer, SPOIL_DIE_REPEATED);
   print_full_fault(chance, &drawer, SPOIL_LAYOUT_REPEATED);
   // Room for the 1,024th record, and then a byte less than that.
   drawer.count = MOST_RECORDS - 1;
   drawer.length = MOST_RECORDS * RECORD_BYTES;
-  print_call(3, die, &unfiled, &drawer);
+  print_call(ADD, die, &unfiled, &drawer);
   drawer.length--;
-  print_call(3, die, &unfiled, &drawer);
+  print_call(ADD, die, &unfiled, &drawer);
   drawer_free(&drawer);
 }
 
@@ -98,7 +98,7 @@ static void print_counts(struct chance *chance) {
   for (uint64_t turn = 0; turn < BAD_COUNTS; turn++) {
     struct drawer miscounted = drawer;
     miscounted.count = bad_count(turn, &drawer);
-    print_calls(die, &map, &miscounted);
+    print_calls(DRAWER_CALLS, die, &map, &miscounted);
   }
   drawer_free(&drawer);
 }
@@ -122,10 +122,10 @@ static void print_lengths(struct chance *chance) {
     struct drawer shorter = drawer;
     shorter.length = lengths[at];
     printf("# %d records in %zu bytes\n", SOME_RECORDS, lengths[at]);
-    print_calls(die, &unfiled, &shorter);
+    print_calls(DRAWER_CALLS, die, &unfiled, &shorter);
     shorter.count = 0;
     printf("# no records in %zu bytes\n", lengths[at]);
-    print_calls(die, &unfiled, &shorter);
+    print_calls(DRAWER_CALLS, die, &unfiled, &shorter);
   }
   drawer_free(&drawer);
 }

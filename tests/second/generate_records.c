@@ -28,9 +28,7 @@ static void set_wrong_n(struct chance *chance, uint8_t *record) {
 
 static void set_wrong_m(struct chance *chance, uint8_t *record) {
   const unsigned wrong[] = {0, MOST_ENTRIES / record[RECORD_N_AT] + 1u, UINT16_MAX};
-  unsigned m = wrong[chance_below(chance, sizeof wrong / sizeof wrong[0])];
-  record[RECORD_M_AT] = (uint8_t)(m & 255);
-  record[RECORD_M_AT + 1] = (uint8_t)(m >> 8);
+  put_16(record + RECORD_M_AT, wrong[chance_below(chance, sizeof wrong / sizeof wrong[0])]);
 }
 
 // A table of 1,020 numbers leaves no filling; then nothing is set.
@@ -77,7 +75,7 @@ static struct map lister_map(struct chance *chance, uint64_t kind) {
 static void fill_lister_record(struct chance *chance, uint8_t *record, uint64_t kind) {
   uint64_t die_bound = chance_one_in(chance, 2) ? 999 : UINT32_MAX;
   struct map map = lister_map(chance, kind);
-  put_record(record, (uint32_t)(1 + chance_below(chance, die_bound)), &map);
+  put_record(record, (uint32_t)(1 + chance_below(chance, die_bound)), map_lent(&map));
   switch (kind) {
   case LISTED_N:
     set_wrong_n(chance, record);

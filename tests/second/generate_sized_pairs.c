@@ -23,7 +23,7 @@ static bool with_one_sewing_changed(struct chance *chance, const struct map *map
 }
 
 // Which side is the changed one is left to chance. The list is right but for the changed sewing.
-static void print_near_twins(struct chance *chance, const struct map *map, const uint16_t *to) {
+static void print_near_twins(struct chance *chance, const struct map *map, uint16_t *to) {
   struct map changed;
   if (!with_one_sewing_changed(chance, map, &changed)) {
     return;
@@ -47,7 +47,7 @@ static void print_lists(const struct map *map, const struct map *twin, uint16_t 
   print_judge(map, twin, to, m);
 }
 
-static void print_pairs_of(struct chance *chance, const struct map *map) {
+void print_pairs_of(struct chance *chance, const struct map *map) {
   uint16_t to[TABLE_ROOM];
   shuffled_names(chance, map->m, to);
   struct map twin = map_renamed(map, to);

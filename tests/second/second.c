@@ -341,9 +341,8 @@ static void word_from(const struct sewings *sewn, unsigned start, uint16_t *word
   }
 }
 
-// Below, at or above 0 as the first word is less than, equal to or greater than the second.
-static int compare_words(const uint16_t *one, const uint16_t *other, unsigned length) {
-  for (unsigned at = 0; at < length; at++) {
+int second_compare_words(const uint16_t *one, const uint16_t *other, size_t length) {
+  for (size_t at = 0; at < length; at++) {
     if (one[at] != other[at]) {
       return one[at] < other[at] ? -1 : 1;
     }
@@ -359,7 +358,7 @@ static void sign(const struct sewings *sewn, struct signature *signature) {
   word_from(sewn, 1, signature->word);
   for (unsigned start = 2; start <= sewn->m; start++) {
     word_from(sewn, start, word);
-    int order = compare_words(word, signature->word, length);
+    int order = second_compare_words(word, signature->word, length);
     if (order < 0) {
       signature->start = start;
       signature->symmetries = 1;
@@ -596,7 +595,7 @@ static bool record_alone_is_good(const uint8_t *record) {
     return false;
   }
   sign(&sewn, &signature);
-  return compare_words(table, signature.word, sewn.n * sewn.m) == 0;
+  return second_compare_words(table, signature.word, sewn.n * sewn.m) == 0;
 }
 
 // Wants both records good: n, m and the word are compared, the die number is not.

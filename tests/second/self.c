@@ -1,14 +1,15 @@
 // Checks second.c against answers worked out by hand from document 01 and the paper's examples.
 // Prints every failure, and as last line how many checks passed and failed.
-#include "second.h"
-#include "second_inside.h"
-
 #include <inttypes.h>
-#include <stdbool.h>
 #include <stdlib.h>
 #include <string.h>
 
-enum { RECORD = 2048, MOST = 1024, UNTOUCHED = 9 };
+#include "../maps/records.h"
+#include "../maps/shapes.h"
+#include "../maps/symmetric.h"
+#include "second_inside.h"
+
+enum { RECORD = RECORD_BYTES, MOST = 1024, UNTOUCHED = 9 };
 
 // A list of numbers as a pointer and a length.
 #define NUMBERS(...) (const uint16_t[]){__VA_ARGS__}, LENGTH_OF(__VA_ARGS__)
@@ -62,30 +63,32 @@ static void expect_filed(const char *what, const uint64_t expected[3], struct se
   expect_tuple("add", what, expected, tuple, 3);
 }
 
+// Two runs of so many items must be the same to the end.
+static void expect_same(const char *call, const char *what, size_t same, size_t length) {
+  if (same == length) {
+    passed++;
+    return;
+  }
+  failed++;
+  printf("FAILED %s: %s\n  item %zu of %zu is another\n", call, what, same + 1, length);
+}
+
 static void expect_numbers(const char *call, const char *what, const uint16_t *expected,
                            const uint16_t *got, size_t length) {
-  for (size_t at = 0; at < length; at++) {
-    if (expected[at] != got[at]) {
-      failed++;
-      printf("FAILED %s: %s\n  number %zu expected %u, got %u\n", call, what, at + 1,
-             (unsigned)expected[at], (unsigned)got[at]);
-      return;
-    }
+  size_t same = 0;
+  while (same < length && expected[same] == got[same]) {
+    same++;
   }
-  passed++;
+  expect_same(call, what, same, length);
 }
 
 static void expect_bytes(const char *call, const char *what, const uint8_t *expected,
                          const uint8_t *got, size_t length) {
-  for (size_t at = 0; at < length; at++) {
-    if (expected[at] != got[at]) {
-      failed++;
-      printf("FAILED %s: %s\n  byte %zu expected %u, got %u\n", call, what, at + 1,
-             (unsigned)expected[at], (unsigned)got[at]);
-      return;
-    }
+  size_t same = 0;
+  while (same < length && expected[same] == got[same]) {
+    same++;
   }
-  passed++;
+  expect_same(call, what, same, length);
 }
 
 static void expect_text(const char *call, const char *what, const char *expected, const char *got) {
@@ -235,15 +238,6 @@ static void check_serving_order(void) {
 
 // ---- Rings and chains of any size ----
 
-// In a ring beta1 goes from d to d + 1 and from m to 1; in a chain m is unsewn.
-static void shape_table(bool ring, unsigned n, unsigned m, uint16_t *table) {
-  memset(table, 0, n * m * sizeof table[0]);
-  for (unsigned dart = 1; dart < m; dart++) {
-    table[(dart - 1) * n] = (uint16_t)(dart + 1);
-  }
-  table[(m - 1) * n] = ring ? 1 : 0;
-}
-
 // Labels go round a ring both ways at once, backwards first: even labels lie behind the start and
 // odd ones before it. So beta1 takes an odd label two up, until the two ways meet, and an even
 // label two down, until the start.
@@ -270,19 +264,17 @@ static void shape_word(bool ring, unsigned n, unsigned m, uint16_t *word) {
 }
 
 static void ring_signs(const char *what, unsigned n, unsigned m) {
-  uint16_t table[MOST];
   uint16_t word[MOST];
-  shape_table(true, n, m, table);
+  struct map ring = ring_map(n, m);
   shape_word(true, n, m, word);
-  sign_gives(what, (struct second_map){n, m, table, n * m}, 1, m, word, n * m);
+  sign_gives(what, map_lent(&ring), 1, m, word, n * m);
 }
 
 static void chain_signs(const char *what, unsigned n, unsigned m) {
-  uint16_t table[MOST];
   uint16_t word[MOST];
-  shape_table(false, n, m, table);
+  struct map chain = chain_map(n, m);
   shape_word(false, n, m, word);
-  sign_gives(what, (struct second_map){n, m, table, n * m}, m, 1, word, n * m);
+  sign_gives(what, map_lent(&chain), m, 1, word, n * m);
 }
 
 static void check_sizes(void) {
@@ -297,6 +289,44 @@ static void check_sizes(void) {
   chain_signs("chain n=1 m=1020", 1, 1020);
   chain_signs("chain n=2 m=510", 2, 510);
   chain_signs("chain n=4 m=255", 4, 255);
+}
+
+// ---- Symmetries known from theory ----
+
+static struct second_signed signed_alone(const struct map *map) {
+  uint16_t out[MOST];
+  return second_sign(map_lent(map), out, MOST);
+}
+
+static void check_shapes(void) {
+  const struct shapes *all = all_shapes();
+  for (size_t at = 0; at < all->count; at++) {
+    const struct shape *shape = &all->shapes[at];
+    struct second_signed got = signed_alone(&shape->map);
+    uint64_t expected[] = {0, shape->map.n, shape->map.m, shape->symmetries};
+    uint64_t tuple[] = {got.number, shape->map.n, shape->map.m, got.symmetries};
+    expect_tuple("symmetries", shape->name, expected, tuple, 4);
+  }
+}
+
+// The symmetries that keep the marks are a part of all, so their number divides that of all; and
+// each takes dart 1 elsewhere, so all of them divide the darts evenly.
+static void check_marked_shape(struct chance *chance, const struct shape *shape) {
+  struct map marked;
+  uint64_t kept;
+  if (map_marked(chance, &shape->map, &marked, &kept)) {
+    uint64_t symmetries = signed_alone(&marked).symmetries;
+    uint64_t rests[] = {symmetries % kept, marked.m % symmetries};
+    expect_tuple("symmetries with marks", shape->name, (uint64_t[]){0, 0}, rests, 2);
+  }
+}
+
+static void check_marked_shapes(void) {
+  const struct shapes *all = all_shapes();
+  struct chance chance = {.state = 12};
+  for (size_t at = 0; at < all->count; at++) {
+    check_marked_shape(&chance, &all->shapes[at]);
+  }
 }
 
 // ---- Refusals of one map ----
@@ -471,24 +501,7 @@ static void check_judge_12(void) {
               NUMBERS(1, 2, 3));
 }
 
-// ---- Records written by hand ----
-
-static void put_little(uint8_t *bytes, unsigned length, uint32_t number) {
-  while (length-- > 0) {
-    *bytes++ = (uint8_t)(number % 256);
-    number /= 256;
-  }
-}
-
-static void put_record(uint8_t *record, uint32_t die, struct second_map map) {
-  memset(record, 0, RECORD);
-  put_little(record, 4, die);
-  put_little(record + 4, 1, (uint32_t)map.n);
-  put_little(record + 6, 2, (uint32_t)map.m);
-  for (size_t at = 0; at < map.length; at++) {
-    put_little(record + 8 + 2 * at, 2, map.table[at]);
-  }
-}
+// ---- The drawer's calls ----
 
 static void add_gives(const char *what, uint32_t die, struct second_map map, uint64_t count,
                       uint8_t *drawer, size_t length, const uint8_t *expected) {
@@ -640,11 +653,10 @@ static void check_life(void) {
 static void check_wide_record(void) {
   uint8_t drawer[2 * RECORD];
   uint8_t expected[2 * RECORD];
-  uint16_t table[MOST];
   uint16_t word[MOST];
-  shape_table(true, 2, 300, table);
+  struct map map = ring_map(2, 300);
+  struct second_map ring = map_lent(&map);
   shape_word(true, 2, 300, word);
-  struct second_map ring = {2, 300, table, 600};
   memset(drawer, 0xAB, sizeof drawer);
   memset(expected, 0xAB, sizeof expected);
   put_record(expected, 77, (struct second_map){2, 300, word, 600});
@@ -658,11 +670,10 @@ static void check_wide_record(void) {
 static void check_full_record(void) {
   uint8_t drawer[RECORD];
   uint8_t expected[RECORD];
-  uint16_t table[MOST];
   uint16_t word[MOST];
-  shape_table(true, 1, 1020, table);
+  struct map map = ring_map(1, 1020);
+  struct second_map ring = map_lent(&map);
   shape_word(true, 1, 1020, word);
-  struct second_map ring = {1, 1020, table, 1020};
   memset(drawer, 0xAB, sizeof drawer);
   put_record(expected, 78, (struct second_map){1, 1020, word, 1020});
   add_gives("a ring of 1,020", 78, ring, 0, drawer, sizeof drawer, expected);
@@ -937,6 +948,8 @@ int main(void) {
   check_paper();
   check_serving_order();
   check_sizes();
+  check_shapes();
+  check_marked_shapes();
   check_refused_maps();
   check_short_signature_output();
   check_match();

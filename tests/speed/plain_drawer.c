@@ -2,7 +2,8 @@
 // then its die and its layout are compared with every record before it.
 #include <stdbool.h>
 
-#include "plain_map.h"
+#include "plain_first_row.h"
+#include "plain_orbits.h"
 
 enum { MOST_RECORDS = 1024, RECORD_BYTES = 2048 };
 
@@ -56,19 +57,35 @@ static enum order compare_with_table(const struct map *map, const uint16_t *beta
   return EQUAL;
 }
 
-// The table of an accepted map is its own signature where a start yields it and none a lesser word.
+// A start that ties with dart 1, where each dart's label is its number, shows a matching of the map
+// with itself, from label to dart.
+static void tie(struct orbits *orbits, const uint16_t *queue, size_t m) {
+  for (size_t k = 0; k < m; k++) {
+    join(orbits, k + 1, queue[k]);
+  }
+}
+
+// The table of an accepted map is its own signature where dart 1 yields it and none a lesser word.
 static bool is_own_signature(const struct map *map, const uint16_t *beta0,
                              struct labelling *labelling) {
-  bool yielded = false;
+  struct orbits orbits;
+  begin_orbits(&orbits, map->m);
+  size_t first_rank = rank(map, beta0, 1);
   for (size_t start = 1; start <= map->m; start++) {
+    if (!is_top(&orbits, start) || rank(map, beta0, start) > first_rank) {
+      // A lesser dart yields its word and was tried, or the first row of dart 1 is lesser.
+      continue;
+    }
     forget(labelling);
     enum order order = compare_with_table(map, beta0, start, labelling);
-    if (order == LESSER) {
+    if (order == LESSER || (order == GREATER && start == 1)) {
       return false;
     }
-    yielded = yielded || order == EQUAL;
+    if (order == EQUAL && start != 1) {
+      tie(&orbits, labelling->queue, map->m);
+    }
   }
-  return yielded;
+  return true;
 }
 
 static bool filling_is_zero(const uint8_t *record, size_t from) {

@@ -6,19 +6,18 @@
 #include <string.h>
 
 #include "checksum.h"
-#include "maps.h"
 #include "pairs.h"
 #include "plain.h"
 
-// Without the library the program has the plain side alone; its match may be still to come.
+// Without the library the program has the plain side alone.
 #ifdef WITH_LIBRARY
-#include "library.h"
+#include "../../include/duftheim.h"
 #endif
 
 // Made before the first round. The output is the same at every call and is never cleared.
-static uint16_t tables[MOST_MAPS_OF_A_KIND][MOST_NUMBERS_OF_A_MAP];
-static uint16_t second_tables[MOST_MAPS_OF_A_KIND][MOST_NUMBERS_OF_A_MAP];
-static uint16_t out[MOST_NUMBERS_OF_A_MAP];
+static uint16_t tables[MOST_MAPS_OF_A_KIND][MOST_ENTRIES];
+static uint16_t second_tables[MOST_MAPS_OF_A_KIND][MOST_ENTRIES];
+static uint16_t out[MOST_ENTRIES];
 
 // ---- The calls ----
 
@@ -56,9 +55,7 @@ static uint64_t sign_library(const struct map_kind *kind, size_t which, uint64_t
       duftheim_signature(kind->n, kind->m, tables[which], length, out, length);
   return folded_signed(sum, answer.number, answer.place, answer.start, answer.symmetries);
 }
-#endif
 
-#ifdef WITH_LIBRARY_MATCH
 static uint64_t match_library(const struct map_kind *kind, size_t which, uint64_t sum) {
   size_t length = kind->n * kind->m;
   struct duftheim_verdict answer =
@@ -80,8 +77,6 @@ static const struct named_call calls[] = {
     {"stranger", "plain", match_plain},
 #ifdef WITH_LIBRARY
     {"sign", "library", sign_library},
-#endif
-#ifdef WITH_LIBRARY_MATCH
     {"twin", "library", match_library},
     {"stranger", "library", match_library},
 #endif
@@ -99,16 +94,25 @@ static call *call_named(const char *name, const char *side) {
 
 // ---- The maps ----
 
+static void fill_table(uint16_t *table, const struct map *map) {
+  memcpy(table, map->table, map->length * sizeof table[0]);
+}
+
 static size_t fill_maps(const struct map_kind *kind) {
   for (size_t which = 0; which < kind->maps; which++) {
-    map_fill(kind, which, tables[which]);
+    struct map map = kind_map(kind, which);
+    fill_table(tables[which], &map);
   }
   return kind->maps;
 }
 
 static size_t fill_pairs(const struct pair_kind *pair, enum pair_relation relation) {
   for (size_t which = 0; which < pair->pairs; which++) {
-    pair_fill(pair, which, relation, tables[which], second_tables[which]);
+    struct map first;
+    struct map second;
+    make_pair(pair, which, relation, &first, &second);
+    fill_table(tables[which], &first);
+    fill_table(second_tables[which], &second);
   }
   return pair->pairs;
 }
@@ -138,7 +142,7 @@ static uint64_t call_all_outputs(const struct map_kind *kind, size_t count, call
                                  uint64_t sum) {
   for (size_t which = 0; which < count; which++) {
     sum = made(kind, which, sum);
-    for (size_t at = 0; at < MOST_NUMBERS_OF_A_MAP; at++) {
+    for (size_t at = 0; at < MOST_ENTRIES; at++) {
       sum = folded(sum, out[at]);
     }
   }

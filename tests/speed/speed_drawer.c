@@ -6,13 +6,13 @@
 #include <string.h>
 
 #include "checksum.h"
+#include "../maps/numberings.h"
 #include "drawers.h"
-#include "maps.h"
 #include "plain.h"
 
-// Without the library's drawer the program has the plain side alone.
-#ifdef WITH_LIBRARY_DRAWER
-#include "library.h"
+// Without the library the program has the plain side alone.
+#ifdef WITH_LIBRARY
+#include "../../include/duftheim.h"
 #endif
 
 static uint8_t bytes[DRAWER_FILE_BYTES];
@@ -24,7 +24,7 @@ struct lent {
   uint32_t die;
   size_t n;
   size_t m;
-  uint16_t table[MOST_NUMBERS_OF_A_MAP];
+  uint16_t table[MOST_ENTRIES];
 };
 
 // ---- The calls ----
@@ -54,7 +54,7 @@ static uint64_t file_plain(const struct lent *lent, uint64_t sum) {
   return folded_answer(sum, answer.number, answer.place, answer.count, 0);
 }
 
-#ifdef WITH_LIBRARY_DRAWER
+#ifdef WITH_LIBRARY
 static uint64_t check_library(const struct lent *lent, uint64_t sum) {
   struct duftheim_verdict answer = duftheim_drawer_check(lent->count, bytes, lent->length);
   return folded_answer(sum, answer.number, answer.place, 0, 0);
@@ -81,7 +81,7 @@ struct named_call {
   call *library;
 };
 
-#ifdef WITH_LIBRARY_DRAWER
+#ifdef WITH_LIBRARY
 #define BOTH(name) name##_plain, name##_library
 #else
 #define BOTH(name) name##_plain, NULL
@@ -108,18 +108,15 @@ static const struct named_call *call_named(const char *name) {
 static struct lent lend(const struct named_call *named, size_t count) {
   // Room for one record more, which filing writes; no drawer has more than 1,024.
   size_t room = count + 1 < DRAWER_FILE_RECORDS ? count + 1 : count;
-  const uint8_t *record = drawer_record(bytes, count + named->behind);
-  struct lent lent = {.count = count, .length = room * DRAWER_RECORD_BYTES};
-  lent.die = drawer_die(record);
-  lent.n = record[DRAWER_N_AT];
-  lent.m = drawer_number(record + DRAWER_M_AT);
-  for (size_t at = 0; at < lent.n * lent.m; at++) {
-    lent.table[at] = drawer_number(record + DRAWER_WORD_AT + 2 * at);
-  }
-  struct map_kind size = {.n = lent.n, .m = lent.m};
-  map_rename(&size, count, lent.table);
+  const uint8_t *record = record_at(bytes, count + named->behind);
+  struct map filed = record_map(record);
+  struct chance chance = {count};
+  struct map map = map_inserted(&chance, &filed);
+  struct lent lent = {.count = count, .length = room * RECORD_BYTES, .die = record_die(record),
+                      .n = (size_t)map.n, .m = (size_t)map.m};
+  memcpy(lent.table, map.table, map.length * sizeof map.table[0]);
   // So that a record filed there shows, and its zeros too.
-  memset(drawer_record(bytes, count + 1), 0xa5, DRAWER_RECORD_BYTES);
+  memset(record_at(bytes, count + 1), 0xa5, RECORD_BYTES);
   return lent;
 }
 
@@ -141,7 +138,7 @@ static size_t read_drawer(const char *file_name) {
   }
   size_t length = fread(bytes, 1, sizeof bytes, file);
   fclose(file);
-  return length / DRAWER_RECORD_BYTES;
+  return length / RECORD_BYTES;
 }
 
 static int complain(void) {

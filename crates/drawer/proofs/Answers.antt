@@ -21,7 +21,7 @@ use Rattle.maps.specs.Accepted.{Accepted}
 use Rattle.maps.specs.Verdict.{refused, accepts}
 use Rattle.maps.specs.Answer.{judgedOf}
 use Rattle.maps.specs.declared.Judged.{Judged}
-use Rattle.maps.proofs.Least.{Tested, passes, fails, tested, true-not-false}
+use Rattle.maps.proofs.Least.{Tested, passes, fails, tested}
 use Rattle.words.specs.Sign.{over}
 use Rattle.drawer.specs.Record as records
 use Rattle.drawer.specs.Record.{numbers, recordSize, filedIn, readTable}
@@ -34,7 +34,7 @@ use Rattle.drawer.specs.declared.table.Entry.the-variants as entry
 use Rattle.drawer.specs.declared.search.Search.{Search}
 use Rattle.drawer.specs.declared.file.Filing.{Filing}
 use Rattle.drawer.proofs.Reading.{length-numbers, table-good}
-use Rattle.drawer.proofs.Inside.{isLayout}
+use Rattle.drawer.proofs.Inside.{isLayout, fault-reads}
 
 -- an answer stands for its reading
 pub for-reading : (h : Reading) (r : List ℕ) → readFor (readingOf h r) ≡ h
@@ -50,15 +50,8 @@ for-reading OtherWord r = refl
 
 -- a fault leaves the list as it was, and a layout puts its table in front
 fault-over : (h : Reading) (r before : List ℕ) → isLayout h ≡ false → tableOver (readingOf h r) before ≡ before
-unfolding isLayout tableOver readingOf
-fault-over (Layout die n m) r before e = absurd (true-not-false refl e)
-fault-over WrongDimension r before e = refl
-fault-over WrongSize r before e = refl
-fault-over NoDie r before e = refl
-fault-over WrongZeroByte r before e = refl
-fault-over WrongFilling r before e = refl
-fault-over (NoMap number place) r before e = refl
-fault-over OtherWord r before e = refl
+unfolding tableOver
+fault-over h r before e = ap (λ (x : records.Reading). tableOver x before) (fault-reads h r e .1)
 
 layout-over : (die n m : ℕ) (r before : List ℕ) → tableOver (readingOf (Layout die n m) r) before ≡ numbers (n * m) (drop 8 r) ++ drop (n * m) before
 unfolding tableOver readingOf over

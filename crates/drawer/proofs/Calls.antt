@@ -11,7 +11,7 @@
 --                            what filing answers and leaves in the drawer
 -- Assumes nothing.
 use Prim.Native.Nat.{ℕ, _+_, _*_, _≤_, _<_}
-use mathlib.Core.Path.{_≡_, refl, sym, ap, _∙_}
+use mathlib.Core.Path.{_≡_, sym, ap, _∙_}
 use mathlib.Core.Bool.{Bool, true, false, _&&_}
 use mathlib.Core.List.{List, [], _∷_, _++_, append-assoc}
 use mathlib.Core.Logic.{_⊎_}
@@ -26,16 +26,16 @@ use Rattle.maps.specs.declared.Judged.the-variants as judged
 use Rattle.maps.specs.declared.Judged.the-variants.{Refused}
 use Rattle.maps.proofs.Least.{Tested, passes, fails, tested}
 use Rattle.maps.proofs.Answer.{passed-accepts, refused-accepts, refused-is, refused-low}
-use Rattle.maps.proofs.Verdict.{refused-refuses, inOrder-passed, inOrder-refused, inOrder-first, unless-passed, unless-refused, atLeast-some}
+use Rattle.maps.proofs.Verdict.{refused-refuses, inOrder-passed, inOrder-refused, inOrder-first, inOrder-on, inOrder-last, unless-passed, unless-refused, atLeast-some, atLeast-none}
 use Rattle.labels.specs.Judging.{checkAnswer}
 use Rattle.labels.specs.Theorems.{CheckAccepts}
 use Rattle.labels.proofs.Judging.{check-whole}
 use Rattle.labels.proofs.Theorems.{check-accepts}
 use Rattle.drawer.specs.Record.{Filed, recordSize, recordBytes, filedIn}
-use Rattle.drawer.specs.Drawer.{Drawer, drawer, mostRecords, recordAt, entryAt, drawerAnswer, layoutOf, recordOf, recordOfDie, judgeSearch, searchAnswer, ownBytes, judgeFiling, filingAnswer, filedBytes}
+use Rattle.drawer.specs.Drawer.{Drawer, drawer, mostRecords, recordAt, entryAt, drawerAnswer, layoutOf, recordOf, recordOfDie, judgeSearch, searchAnswer, ownBytes, judgeNext, judgeFiling, filingAnswer, filedBytes}
 use Rattle.drawer.specs.Theorems.{found}
 use Rattle.drawer.specs.Answers.{searchOf, filingOf, FilesAs}
-use Rattle.drawer.specs.Inside.{Within, HasRecord, Comparable, nextAnswer}
+use Rattle.drawer.specs.Inside.{Within, HasRecord, Comparable}
 use Rattle.drawer.specs.declared.search.Search.the-variants as search
 use Rattle.drawer.specs.declared.file.Filing.the-variants as filing
 use Rattle.drawer.proofs.Record.{Fits, length-recordBytes, filedIn-recordBytes}
@@ -43,7 +43,7 @@ use Rattle.drawer.proofs.Reading.{filing-fits}
 use Rattle.drawer.proofs.Lines.{bounds-fail, recordOf-found}
 use Rattle.drawer.proofs.Drawer.{check-good, drawer-whole, search-found, search-none, search-passed, own-refused}
 use Rattle.drawer.proofs.Filing.{filing-passed}
-use Rattle.drawer.proofs.Checking.{within-fewer, passed-on, passed-last, atLeast-none}
+use Rattle.drawer.proofs.Checking.{within-fewer}
 
 pub accepted-within : (count : ℕ) (bytes : List ℕ) → accepts (drawerAnswer (drawer count bytes)) ≡ true → Within count bytes
 unfolding mostRecords recordSize
@@ -61,47 +61,47 @@ module _ (die : ℕ) (l : Given) (D : Drawer) where
   abbrev die-left : List Verdict
   die-left = atLeast 16 (recordOfDie die D) ∷ layout-left
 
-  pub next-drawer : accepts (drawerAnswer D) ≡ false → nextAnswer die l D ≡ drawerAnswer D
-  unfolding nextAnswer
+  pub next-drawer : accepts (drawerAnswer D) ≡ false → inOrder (judgeNext die l D) ≡ drawerAnswer D
+  unfolding judgeNext
   next-drawer e = inOrder-refused _ _ e
 
   module _ (checked : accepts (drawerAnswer D) ≡ true) where
-    past-drawer : nextAnswer die l D ≡ inOrder (unless (leb 1 die) 16 0 ∷ die-left)
-    unfolding nextAnswer
+    past-drawer : inOrder (judgeNext die l D) ≡ inOrder (unless (leb 1 die) 16 0 ∷ die-left)
+    unfolding judgeNext
     past-drawer = inOrder-passed _ _ checked
 
-    pub next-no-die : die ≡ 0 → nextAnswer die l D ≡ refused 16 0
+    pub next-no-die : die ≡ 0 → inOrder (judgeNext die l D) ≡ refused 16 0
     next-no-die none = past-drawer ∙ inOrder-first _ _ 16 0 (omega arith) (unless-refused _ 16 0 (lt-leb 1 die (omega arith)))
 
     module _ (some-die : die ≡ 0 → ⊥) where
-      past-no-die : nextAnswer die l D ≡ inOrder die-left
-      past-no-die = past-drawer ∙ passed-on _ die-left (unless-passed _ 16 0 (le-leb 1 die (omega arith)))
+      past-no-die : inOrder (judgeNext die l D) ≡ inOrder die-left
+      past-no-die = past-drawer ∙ inOrder-on _ die-left (unless-passed _ 16 0 (le-leb 1 die (omega arith)))
 
-      pub next-die : (k : ℕ) → k ≡ recordOfDie die D → (k ≡ 0 → ⊥) → nextAnswer die l D ≡ refused 16 k
+      pub next-die : (k : ℕ) → k ≡ recordOfDie die D → (k ≡ 0 → ⊥) → inOrder (judgeNext die l D) ≡ refused 16 k
       next-die k is some-record = past-no-die ∙ inOrder-first _ _ 16 k (omega arith) (ap (atLeast 16) (sym is) ∙ atLeast-some 16 k some-record)
 
       module _ (no-die : 0 ≡ recordOfDie die D) where
-        past-die : nextAnswer die l D ≡ inOrder layout-left
-        past-die = past-no-die ∙ passed-on _ layout-left (atLeast-none 16 _ (sym no-die))
+        past-die : inOrder (judgeNext die l D) ≡ inOrder layout-left
+        past-die = past-no-die ∙ inOrder-on _ layout-left (atLeast-none 16 _ (sym no-die))
 
-        pub next-layout : (k : ℕ) → k ≡ recordOf l D → (k ≡ 0 → ⊥) → nextAnswer die l D ≡ refused 17 k
+        pub next-layout : (k : ℕ) → k ≡ recordOf l D → (k ≡ 0 → ⊥) → inOrder (judgeNext die l D) ≡ refused 17 k
         next-layout k is some-record = past-die ∙ inOrder-first _ _ 17 k (omega arith) (ap (atLeast 17) (sym is) ∙ atLeast-some 17 k some-record)
 
         module _ (no-layout : 0 ≡ recordOf l D) where
-          past-layout : nextAnswer die l D ≡ inOrder room-left
-          past-layout = past-die ∙ passed-on _ room-left (atLeast-none 17 _ (sym no-layout))
+          past-layout : inOrder (judgeNext die l D) ≡ inOrder room-left
+          past-layout = past-die ∙ inOrder-on _ room-left (atLeast-none 17 _ (sym no-layout))
 
-          pub next-over : (1024 < D .count + 1) ⊎ (length (D .bytes) < (D .count + 1) * 2048) → nextAnswer die l D ≡ refused 18 0
+          pub next-over : (1024 < D .count + 1) ⊎ (length (D .bytes) < (D .count + 1) * 2048) → inOrder (judgeNext die l D) ≡ refused 18 0
           unfolding mostRecords recordSize
           next-over h =
               past-layout
               ∙ inOrder-first _ _ 18 0 (omega arith) (unless-refused _ 18 0 (bounds-fail (D .count + 1) 1024 ((D .count + 1) * 2048) (length (D .bytes)) .1 h))
 
-          pub next-room : D .count + 1 ≤ 1024 → (D .count + 1) * 2048 ≤ length (D .bytes) → nextAnswer die l D ≡ accepted
+          pub next-room : D .count + 1 ≤ 1024 → (D .count + 1) * 2048 ≤ length (D .bytes) → inOrder (judgeNext die l D) ≡ accepted
           unfolding mostRecords recordSize
           next-room few room =
               past-layout
-              ∙ passed-last _ (unless-passed _ 18 0 (simp (le-leb (D .count + 1) 1024 few, le-leb ((D .count + 1) * 2048) (length (D .bytes)) room)))
+              ∙ inOrder-last _ (unless-passed _ 18 0 (simp (le-leb (D .count + 1) 1024 few, le-leb ((D .count + 1) * 2048) (length (D .bytes)) room)))
 
 -- a record made of a die and an accepted map
 module _ (die : ℕ) (g : Given) (small : die ≤ 4294967295) (takes : accepts (checkAnswer g) ≡ true) where
@@ -208,14 +208,14 @@ module _ (die : ℕ) (g : Given) (D : Drawer) where
 
   module _ (takes : accepts (checkAnswer g) ≡ true) where
     -- past the map's own numbers
-    judging-next : judgeFiling die g D ≡ nextAnswer die (layoutOf g) D
-    unfolding judgeFiling nextAnswer
+    judging-next : judgeFiling die g D ≡ inOrder (judgeNext die (layoutOf g) D)
+    unfolding judgeFiling
     judging-next = inOrder-passed _ _ takes
 
-    pub filing-judged : (k p : ℕ) → Refused k p ≡ judgedOf (nextAnswer die (layoutOf g) D) → FilesAs die g D (filing.Refused k p) (D .bytes)
+    pub filing-judged : (k p : ℕ) → Refused k p ≡ judgedOf (inOrder (judgeNext die (layoutOf g) D)) → FilesAs die g D (filing.Refused k p) (D .bytes)
     filing-judged k p is = filing-back k p (refused-low _ k p is) (judging-next ∙ refused-is _ k p is)
 
-    module _ (passed : judged.Passed ≡ judgedOf (nextAnswer die (layoutOf g) D)) where
+    module _ (passed : judged.Passed ≡ judgedOf (inOrder (judgeNext die (layoutOf g) D))) where
       accepting : accepts (judgeFiling die g D) ≡ true
       accepting = ap accepts judging-next ∙ passed-accepts _ passed
 

@@ -6,38 +6,34 @@
 --                           so the least that passes is k, or there is none
 --     bad-read, bad-die, bad-else
 --                           whether record k is bad, by its reading and the records before it
---     passed-on, passed-last, atLeast-none
---                           verdicts that accept
 --     checked-over, checked-bad, checked-good
 --                           what the drawer check answers, by the count, the bytes and the least bad record
 -- Assumes nothing.
 use Prim.Native.Nat.{ℕ, _+_, _-_, _*_, _≤_, _<_}
 use mathlib.Core.Path.{_≡_, refl, sym, ap, ap₂, _∙_}
 use mathlib.Core.Bool.{Bool, true, false, not, _||_}
-use mathlib.Core.List.{List, [], _∷_}
+use mathlib.Core.List.{List}
 use mathlib.Core.Logic.{_⊎_}
 use native.Mathlib.Omega.{arith}
-use borrow.Author.Tests.{eq-eqb, eqb-true, eqb-false, le-leb}
+use borrow.Author.Tests.{eqb-true, eqb-false, le-leb}
 use lib.Dec.{eqb}
 use lib.Seq.{length-take-le}
 use lib.ListN.{length, take, drop, length-drop}
 use Rattle.maps.specs.Least.{least}
 use Rattle.maps.specs.Given.{mapOf}
-use Rattle.maps.specs.Verdict.{Verdict, accepted, refused, accepts, unless, atLeast, inOrder}
-use Rattle.maps.specs.Answer.{judgedOf}
-use Rattle.maps.specs.declared.Judged.the-variants.{Passed}
-use Rattle.maps.proofs.Least.{Tested, passes, fails, tested, true-not-false, Passed as PassedBy, passed-start, passed-turn, passed-found, passed-misses, least-is, none-least, least-found, least-none, passes-some, misses-some}
-use Rattle.maps.proofs.Verdict.{inOrder-passed, inOrder-first, unless-passed, unless-refused, atLeast-some}
+use Rattle.maps.specs.Verdict.{accepted, refused, atLeast}
+use Rattle.maps.proofs.Least.{Tested, passes, fails, tested, Passed, passed-start, passed-turn, passed-found, passed-misses, least-is, none-least, least-found, least-none, passes-some, misses-some}
+use Rattle.maps.proofs.Verdict.{inOrder-first, inOrder-on, inOrder-last, unless-passed, unless-refused, atLeast-some, atLeast-none}
 use Rattle.drawer.specs.Record as records
 use Rattle.drawer.specs.Record.{Filed, recordSize, filedIn, readRecord}
 use Rattle.drawer.specs.Drawer.{drawer, mostRecords, recordAt, entryAt, isBad, hasDie, hasLayout, repeats, badRecord, judgeCount, judgeRecords, drawerAnswer, recordOf, recordOfDie}
 use Rattle.drawer.specs.Answers.{readingOf}
 use Rattle.drawer.specs.Inside.{Within, HasRecord}
 use Rattle.drawer.specs.declared.fields.Reading.{Reading}
-use Rattle.drawer.specs.declared.fields.Reading.the-variants.{Layout, WrongDimension, WrongSize, NoDie, WrongZeroByte, WrongFilling, NoMap, OtherWord}
+use Rattle.drawer.specs.declared.fields.Reading.the-variants.{Layout}
 use Rattle.drawer.proofs.Reading.{sound-good, good-sound}
 use Rattle.drawer.proofs.Lines.{bounds-fail}
-use Rattle.drawer.proofs.Inside.{isLayout}
+use Rattle.drawer.proofs.Inside.{isLayout, fault-reads}
 
 -- record k, as a part of the bytes
 record-from : (k : ℕ) → 1 ≤ k → k * 2048 - 2048 ≡ (k - 1) * 2048
@@ -62,7 +58,7 @@ within-fewer k w less = record { few = omega (arith, w .few); inside = omega (ar
 pub record Passing (p : ℕ → Bool) (count k : ℕ) : Type 0 where
   pub low : 1 ≤ k
   pub high : k ≤ count + 1
-  pub so-far : PassedBy p k
+  pub so-far : Passed p k
 
 module _ (p : ℕ → Bool) (count : ℕ) where
   pub passing-start : Passing p count 1
@@ -88,15 +84,8 @@ either-second false b e = e
 
 -- a fault is bad, and a layout is not; its die is the record's
 fault-bad : (h : Reading) (r : List ℕ) → isLayout h ≡ false → isBad (readingOf h r) ≡ true
-unfolding isLayout isBad readingOf
-fault-bad (Layout die n m) r e = absurd (true-not-false refl e)
-fault-bad WrongDimension r e = refl
-fault-bad WrongSize r e = refl
-fault-bad NoDie r e = refl
-fault-bad WrongZeroByte r e = refl
-fault-bad WrongFilling r e = refl
-fault-bad (NoMap number place) r e = refl
-fault-bad OtherWord r e = refl
+unfolding isBad
+fault-bad h r e = ap isBad (fault-reads h r e .1)
 
 layout-good : (die n m : ℕ) (r : List ℕ) → isBad (readingOf (Layout die n m) r) ≡ false
 unfolding isBad readingOf
@@ -185,24 +174,6 @@ module _ (bytes : List ℕ) (k : ℕ) where
         at (passes e) = ap not e ∙ sym (not-bad no-die (sym (eqb-true j 0 e) ∙ first))
         at (fails e) = ap not e ∙ sym (bad-layout j first (eqb-false j 0 e))
 
--- a list of verdicts whose first is accepted
-pub passed-on : (v : Verdict) (vs : List Verdict) → v ≡ accepted → inOrder (v ∷ vs) ≡ inOrder vs
-unfolding accepts accepted
-passed-on v vs is = inOrder-passed v vs (ap accepts is)
-
-pub passed-last : (v : Verdict) → v ≡ accepted → inOrder (v ∷ []) ≡ accepted
-unfolding inOrder
-passed-last v is = passed-on v [] is
-
--- a verdict by the least wrong place, where there is none
-pub atLeast-none : (k p : ℕ) → p ≡ 0 → atLeast k p ≡ accepted
-unfolding atLeast
-atLeast-none k p none = unless-passed _ k p (eq-eqb p 0 none)
-
-pub judged-accepted : {v : Verdict} → v ≡ accepted → Passed ≡ judgedOf v
-unfolding judgedOf accepts accepted
-judged-accepted is = rw is refl
-
 module _ (count : ℕ) (bytes : List ℕ) where
   pub checked-over : (1024 < count) ⊎ (length bytes < count * 2048) → drawerAnswer (drawer count bytes) ≡ refused 13 0
   unfolding drawerAnswer judgeCount mostRecords recordSize
@@ -216,9 +187,9 @@ module _ (count : ℕ) (bytes : List ℕ) where
     pub checked-bad : (k : ℕ) → k ≡ least count (badRecord bytes) → (k ≡ 0 → ⊥) → drawerAnswer (drawer count bytes) ≡ refused 14 k
     unfolding drawerAnswer judgeRecords
     checked-bad k is some-record =
-        passed-on _ _ count-fits
+        inOrder-on _ _ count-fits
         ∙ inOrder-first _ _ 14 k (omega arith) (ap (atLeast 14) (sym is) ∙ atLeast-some 14 k some-record)
 
     pub checked-good : 0 ≡ least count (badRecord bytes) → drawerAnswer (drawer count bytes) ≡ accepted
     unfolding drawerAnswer judgeRecords
-    checked-good none = passed-on _ _ count-fits ∙ passed-last _ (atLeast-none 14 _ (sym none))
+    checked-good none = inOrder-on _ _ count-fits ∙ inOrder-last _ (atLeast-none 14 _ (sym none))

@@ -29,10 +29,10 @@ use Rattle.maps.proofs.Lines.{both-pass}
 use Rattle.labels.specs.Judging.{checkAnswer}
 use Rattle.labels.specs.Theorems.{CheckAccepts}
 use Rattle.labels.proofs.Theorems.{check-accepts}
-use Rattle.labels.proofs.Judging.{table-whole}
+use Rattle.labels.proofs.Judging.{check-whole}
 use Rattle.words.proofs.Sign.{length-signature}
 use Rattle.drawer.specs.Record.{Filed, recordSize, recordBytes, filedIn}
-use Rattle.drawer.specs.Drawer.{Drawer, drawer, mostRecords, recordAt, entryAt, badRecord, drawerAnswer, layoutOf, recordOf, recordOfDie, judgeFiling, filingAnswer, filedBytes}
+use Rattle.drawer.specs.Drawer.{Drawer, drawer, mostRecords, recordAt, entryAt, badRecord, drawerAnswer, layoutOf, recordOf, recordOfDie, judgeNext, judgeFiling, filingAnswer, filedBytes}
 use Rattle.drawer.specs.Lines.{IsRecord}
 use Rattle.drawer.specs.Theorems.{Elsewhere}
 use Rattle.drawer.proofs.Record.{length-recordBytes, filedIn-recordBytes}
@@ -54,13 +54,9 @@ pub record Passed (die : ℕ) (g : Given) (D : Drawer) : Type 0 where
   pub few : D .count + 1 ≤ mostRecords
   pub room : (D .count + 1) * recordSize ≤ length (D .bytes)
 
-check-whole : (g : Given) → accepts (checkAnswer g) ≡ true → checkAnswer g ≡ accepted
-unfolding checkAnswer
-check-whole g e = table-whole _ g e
-
 module _ (die : ℕ) (g : Given) (D : Drawer) where
   pub filing-passed : accepts (judgeFiling die g D) ≡ true → Passed die g D
-  unfolding judgeFiling
+  unfolding judgeNext judgeFiling
   filing-passed e =
       let a = inOrder-both _ _ e in
       let b = inOrder-both _ _ (a .1) in

@@ -5,6 +5,7 @@
 --     numbers-suc                      one number more
 --     Copying                          a word under way into an array
 --     header-reads                     a record's reading is what its header leaves of it: the table, or the header's fault
+--     other-fault, fault-reads         an answer that is no layout, and what it stands for
 --     table-fault, record-fault        so a fault of the header goes straight back
 --     header-low, .. header-whole      a header, by the tests that led to it
 --     header-known                     what a header with its fields says of its record: `Known`
@@ -43,7 +44,7 @@ use Rattle.words.specs.Own.{ownAnswer}
 use Rattle.words.specs.declared.own_signature.Own.{Own}
 use Rattle.words.specs.declared.own_signature.Own.the-variants as own
 use Rattle.drawer.specs.Record as records
-use Rattle.drawer.specs.Record.{Fault, bad, good, no-map, other-word, fromBytes, numbers, filedIn, zeroByteIn, fillingIn, allZero, sameLayout, provided, readTable, asSigned, readRecord}
+use Rattle.drawer.specs.Record.{Fault, bad, good, wrong-dimension, wrong-size, no-die, zero-byte, filling, no-map, other-word, fromBytes, numbers, filedIn, zeroByteIn, fillingIn, allZero, sameLayout, provided, readTable, asSigned, readRecord}
 use Rattle.drawer.specs.Answers.{readingOf}
 use Rattle.drawer.specs.Inside.{headerOf}
 use Rattle.drawer.specs.declared.fields.Reading.{Reading}
@@ -138,17 +139,22 @@ other-fault WrongFilling key = refl
 other-fault (NoMap number place) key = refl
 other-fault OtherWord key = refl
 
--- a fault is not changed by the judging of the word, which it comes before
+-- what a fault stands for
+pub fault-reads : (h : Reading) (r : List ℕ) → isLayout h ≡ false → (f : Fault) × (readingOf h r ≡ bad f)
+unfolding isLayout readingOf
+fault-reads (Layout die n m) r e = absurd (true-not-false refl e)
+fault-reads WrongDimension r e = (wrong-dimension, refl)
+fault-reads WrongSize r e = (wrong-size, refl)
+fault-reads NoDie r e = (no-die, refl)
+fault-reads WrongZeroByte r e = (zero-byte, refl)
+fault-reads WrongFilling r e = (filling, refl)
+fault-reads (NoMap number place) r e = (no-map (refused number place), refl)
+fault-reads OtherWord r e = (other-word, refl)
+
+-- it is not changed by the judging of the word, which it comes before
 fault-signed : (h : Reading) (r : List ℕ) → isLayout h ≡ false → asSigned (readingOf h r) ≡ readingOf h r
-unfolding isLayout readingOf asSigned
-fault-signed (Layout die n m) r e = absurd (true-not-false refl e)
-fault-signed WrongDimension r e = refl
-fault-signed WrongSize r e = refl
-fault-signed NoDie r e = refl
-fault-signed WrongZeroByte r e = refl
-fault-signed WrongFilling r e = refl
-fault-signed (NoMap number place) r e = refl
-fault-signed OtherWord r e = refl
+unfolding asSigned
+fault-signed h r e = let f = fault-reads h r e in ap asSigned (f .1) ∙ sym (f .1)
 
 module _ (r : List ℕ) where
   -- what is left to be read where the header has its fields: the table

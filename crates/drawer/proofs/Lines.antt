@@ -30,7 +30,7 @@ use Rattle.labels.proofs.Theorems.{check-shows}
 use Rattle.words.specs.Words.{same, signature}
 use Rattle.words.proofs.Order.{same-equal, equal-same}
 use Rattle.drawer.specs.Record.{Filed, recordSize, filedIn, zeroByteIn, fillingIn, allZero, readRecord}
-use Rattle.drawer.specs.Drawer.{Drawer, mostRecords, recordAt, entryAt, isBad, hasDie, hasLayout, repeats, badRecord, judgeCount, judgeRecords, drawerAnswer, layoutOf, recordOf, recordOfDie, judgeSearch, searchAnswer, judgeFiling, filingAnswer}
+use Rattle.drawer.specs.Drawer.{Drawer, mostRecords, recordAt, entryAt, isBad, hasDie, hasLayout, repeats, badRecord, judgeCount, judgeRecords, drawerAnswer, layoutOf, recordOf, recordOfDie, judgeSearch, searchAnswer, judgeNext, judgeFiling, filingAnswer}
 use Rattle.drawer.specs.Lines.{IsRecord, layoutAt, Bad, no-die, out-of-bounds, zero-byte, filling, no-map, other-word, die-repeated, layout-repeated, drawerLines, searchLines, filingLines, DrawerShows, SearchShows, FilingShows, SearchNumbers, FilingNumbers}
 use Rattle.drawer.proofs.Reading.{Sound, good-sound, sound-reads, bounds-accept, accept-bounds, map-accepts, accepts-map, sameLayout-equal, equal-sameLayout}
 
@@ -326,7 +326,7 @@ module _ (die : ℕ) (g : Given) (D : Drawer) where
       )
 
   judgeFiling-shows : Shows (filingLines die g D) (judgeFiling die g D)
-  unfolding filingLines judgeFiling CheckShows DrawerShows
+  unfolding filingLines judgeNext judgeFiling CheckShows DrawerShows
   judgeFiling-shows =
       shows-then _ (check-shows g)
       (λ c.
@@ -338,7 +338,7 @@ module _ (die : ℕ) (g : Given) (D : Drawer) where
       (λ f. shows-last (shows-unless 18 _ (omega arith) (room-fails (count-most d)))))))
 
   pub judgeFiling-whole : accepts (judgeFiling die g D) ≡ true → judgeFiling die g D ≡ accepted
-  unfolding judgeFiling
+  unfolding judgeNext judgeFiling
   judgeFiling-whole e = inOrder-accepts _ e
 
 pub filing-shows : FilingShows

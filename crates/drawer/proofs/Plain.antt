@@ -31,7 +31,7 @@ use Rattle.labels.specs.Judging.{checkAnswer}
 use Rattle.labels.specs.Theorems.{CheckAccepts}
 use Rattle.labels.proofs.Theorems.{check-accepts}
 use Rattle.drawer.specs.Record.{Filed, recordSize, recordBytes, filedIn}
-use Rattle.drawer.specs.Drawer.{Drawer, drawer, mostRecords, recordAt, entryAt, hasDie, hasLayout, drawerAnswer, layoutOf, recordOf, recordOfDie, judgeSearch, searchAnswer, ownBytes, judgeFiling, filingAnswer, filedBytes}
+use Rattle.drawer.specs.Drawer.{Drawer, drawer, mostRecords, recordAt, entryAt, hasDie, hasLayout, drawerAnswer, layoutOf, recordOf, recordOfDie, judgeSearch, searchAnswer, ownBytes, judgeNext, judgeFiling, filingAnswer, filedBytes}
 use Rattle.drawer.specs.Plain.{Call, checks, searches, fetches, files, Answer, checked, searched, fetched, filed, fits, allFit, drawerStep, drawerAfter, drawerRun, firstPlace, noEntry, filedAt, judgePlainSearch, plainSearch, plainFetch, judgePlainFiling, plainFiling, plainStep, plainAfter, plainRun, roomIn, PlainList}
 use Rattle.drawer.specs.Theorems.{drawerLeft, plainLeft, holding}
 use Rattle.drawer.proofs.Record.{Fits, length-recordBytes, filedIn-recordBytes}
@@ -246,7 +246,7 @@ module _ {bytes : List ℕ} {fs : List Filed} (h : Held bytes fs) where
 
   module _ (die : ℕ) (g : Given) where
     judgeFiling-is : judgeFiling die g D ≡ judgePlainFiling (roomIn bytes) die g fs
-    unfolding judgeFiling judgePlainFiling inOrder accepts accepted holding
+    unfolding judgeNext judgeFiling judgePlainFiling inOrder accepts accepted holding
     judgeFiling-is = rw (fine, recordOfDie-is die, recordOf-is (layoutOf g), room-is)
 
     filing-is : filingAnswer die g D ≡ plainFiling (roomIn bytes) die g fs

@@ -2,13 +2,13 @@
 -- are in `Run`. Assumes nothing.
 use Prim.Native.Nat.{ℕ}
 use mathlib.Core.Path.{_≡_, refl}
-use mathlib.Core.Bool.{Bool, true, false, _&&_}
+use mathlib.Core.Bool.{Bool, true, _&&_}
 use mathlib.Core.List.{List, [], _∷_, _++_}
 use lib.Dec.{T, eqb}
-use lib.ListN.{length, set, replicate}
+use lib.ListN.{set, replicate}
 use Rattle.maps.specs.Given.{lent}
 use Rattle.maps.specs.Verdict.{Verdict}
-use Rattle.drawer.specs.Record.{Filed, Fault, wrong-dimension, wrong-size, no-die, zero-byte, filling, no-map, other-word, Reading, good, bad, recordBytes, readRecord}
+use Rattle.drawer.specs.Record.{wrong-dimension, wrong-size, no-die, zero-byte, filling, no-map, other-word, Reading, good, bad, recordBytes, readRecord}
 use Rattle.drawer.specs.Drawer.{drawer, mostRecords, drawerAnswer, filedBytes}
 use Rattle.drawer.proofs.Opened.{opened}
 

@@ -118,20 +118,22 @@ pub record FilingAnswer : Type 0 where
   pub place : ℕ
   pub count : ℕ
 
--- 01: "filing gives 1..9, 13, 14, 16, 17, 18, in these orders"
-unfoldable pub judgeFiling : ℕ → Given → Drawer → Verdict
-judgeFiling die g D =
-    inOrder
-    (checkAnswer g
-    ∷ drawerAnswer D
+-- what stands against a die and a layout as the next record
+unfoldable pub judgeNext : ℕ → Given → Drawer → List Verdict
+judgeNext die l D =
+    drawerAnswer D
     -- 16: "die number 0 or already filed", place "0, or the record"
     ∷ unless (leb 1 die) 16 0
     ∷ atLeast 16 (recordOfDie die D)
     -- 17: "layout already filed"
-    ∷ atLeast 17 (recordOf (layoutOf g) D)
+    ∷ atLeast 17 (recordOf l D)
     -- 18: "count is 1,024, or the drawer has no room for one record more"
     ∷ unless (leb (D .count + 1) mostRecords && leb ((D .count + 1) * recordSize) (length (D .bytes))) 18 0
-    ∷ [])
+    ∷ []
+
+-- 01: "filing gives 1..9, 13, 14, 16, 17, 18, in these orders"
+unfoldable pub judgeFiling : ℕ → Given → Drawer → Verdict
+judgeFiling die g D = inOrder (checkAnswer g ∷ judgeNext die (layoutOf g) D)
 
 -- 01: "answers the new count"
 unfoldable pub filingAnswer : ℕ → Given → Drawer → FilingAnswer

@@ -1,31 +1,29 @@
 -- For the functions inside: no public contract cites this file.
 --     HoldsWord size r word      the bytes r have a word of so many numbers, and the list has room for it
 --     HoldNumbers at count r s   the bytes r and s each have so many numbers from an index on
---     HoldsWords size r s        the bytes r and s each have a word of so many numbers
 --     Comparable, Compares       a record whose word fits, and two records whose layouts may be compared
 --     headerOf r                 the fields of the record r, or the first fault up to the filling
 --     Within, HasRecord          so many records, or one of them, inside the lent bytes
 --     Seeks                      records, and one whose layout is looked for among them
 --     Puts, PutsWord, Writes     a number, a word or a whole record that an array has room for
 --     Made                       the record made of a die and a map
---     nextAnswer                 13, 14 and 16 to 18, of a die and a layout
 --     Copies                     a record, and room for it in a drawer
 -- Assumes nothing.
 use Prim.Native.Nat.{ℕ, _+_, _*_, _≤_}
 use mathlib.Core.Path.{_≡_}
-use mathlib.Core.Bool.{true, cond, _&&_}
-use mathlib.Core.List.{List, [], _∷_}
+use mathlib.Core.Bool.{true, cond}
+use mathlib.Core.List.{List}
 use lib.Dec.{eqb, leb}
 use lib.ListN.{length, replicate}
 use Rattle.maps.specs.Given.{Given}
 use Rattle.maps.specs.Accepted.{InBounds}
-use Rattle.maps.specs.Verdict.{Verdict, accepts, unless, atLeast, inOrder}
+use Rattle.maps.specs.Verdict.{accepts}
 use Rattle.maps.specs.Answer.{judgedOf}
 use Rattle.maps.specs.declared.Judged.{Judged}
 use Rattle.maps.specs.Rules.{judgeDimension, judgeSize}
 use Rattle.labels.specs.Judging.{checkAnswer}
 use Rattle.drawer.specs.Record.{recordSize, recordBytes, filedIn, zeroByteIn, fillingIn, allZero}
-use Rattle.drawer.specs.Drawer.{Drawer, mostRecords, drawerAnswer, layoutOf, recordOf, recordOfDie}
+use Rattle.drawer.specs.Drawer.{layoutOf}
 use Rattle.drawer.specs.declared.fields.Reading.{Reading}
 use Rattle.drawer.specs.declared.fields.Reading.the-variants.{Layout, WrongDimension, WrongSize, NoDie, WrongZeroByte, WrongFilling}
 
@@ -41,12 +39,6 @@ pub record HoldNumbers (at count : ℕ) (r s : List ℕ) : Type 0 where
   pub near : at ≤ 2048
   pub first-long : at + 2 * count ≤ length r
   pub second-long : at + 2 * count ≤ length s
-
--- the bytes r and s each have a word of so many numbers
-pub record HoldsWords (size : ℕ) (r s : List ℕ) : Type 0 where
-  pub few : size ≤ 1020
-  pub first-long : 8 + 2 * size ≤ length r
-  pub second-long : 8 + 2 * size ≤ length s
 
 -- a record whose word fits
 pub record Comparable (filed : List ℕ) : Type 0 where
@@ -111,17 +103,6 @@ pub record Writes (n m : ℕ) (word filed : List ℕ) : Type 0 where
 pub record Made (die : ℕ) (g : Given) (r : Judged) (filed : List ℕ) : Type 0 where
   pub answer : r ≡ judgedOf (checkAnswer g)
   pub written : accepts (checkAnswer g) ≡ true → filed ≡ recordBytes (record { die = die; layout = layoutOf g })
-
--- 13, 14 and 16 to 18, as `judgeFiling` has them
-unfoldable pub nextAnswer : ℕ → Given → Drawer → Verdict
-nextAnswer die l D =
-    inOrder
-    (drawerAnswer D
-    ∷ unless (leb 1 die) 16 0
-    ∷ atLeast 16 (recordOfDie die D)
-    ∷ atLeast 17 (recordOf l D)
-    ∷ unless (leb (D .count + 1) mostRecords && leb ((D .count + 1) * recordSize) (length (D .bytes))) 18 0
-    ∷ [])
 
 -- a record, and room for it in a drawer from an index on
 pub record Copies (filed : List ℕ) (from : ℕ) (bytes : List ℕ) : Type 0 where

@@ -7,7 +7,7 @@ ghost use lib.ListN.{length, take, drop};
 ghost use Rattle.words.specs.Words.{same};
 ghost use Rattle.drawer.specs.Record.{fromBytes, numbers, allZero, recordSize, filedIn, sameLayout, readRecord};
 ghost use Rattle.drawer.specs.Answers.{readingOf};
-ghost use Rattle.drawer.specs.Inside.{HoldsWord, HoldNumbers, HoldsWords, Compares, headerOf};
+ghost use Rattle.drawer.specs.Inside.{HoldsWord, HoldNumbers, Compares, headerOf};
 use words::Own;
 
 // What reading a record finds: a filed layout, whose word stays where it stands, or the first of the record's faults.
@@ -171,7 +171,7 @@ fn same_numbers(first: &[u8], second: &[u8], at: usize, count: usize) -> bool
 
 // Two words of one size are the same. They are left after sixteen numbers in which they differ.
 fn same_word(first: &[u8], second: &[u8], size: usize) -> bool
-    requires { ⌜ HoldsWords size (now first) (now second) ⌝ }
+    requires { ⌜ HoldNumbers 8 size (now first) (now second) ⌝ }
     ensures { λ r. ⌜ r ≡ same (numbers size (drop 8 (now (first .entry)))) (numbers size (drop 8 (now (second .entry)))) ⌝ }
 {
     let mut i = 0;

@@ -4,11 +4,12 @@ ghost use mathlib.Core.List.{_++_};
 ghost use Prim.Native.Nat.{_+_};
 ghost use lib.ListN.{take, drop};
 ghost use Rattle.maps.specs.Given.{lent};
+ghost use Rattle.maps.specs.Verdict.{inOrder};
 ghost use Rattle.maps.specs.Answer.{judgedOf};
 ghost use Rattle.drawer.specs.Record.{recordSize, filedIn};
-ghost use Rattle.drawer.specs.Drawer.{drawer};
+ghost use Rattle.drawer.specs.Drawer.{drawer, judgeNext};
 ghost use Rattle.drawer.specs.Answers.{FilesAs};
-ghost use Rattle.drawer.specs.Inside.{Comparable, Copies, nextAnswer};
+ghost use Rattle.drawer.specs.Inside.{Comparable, Copies};
 use crate::check::check_drawer;
 use crate::check::first_with_die;
 use crate::check::first_with_layout;
@@ -24,7 +25,7 @@ pub enum Filing {
 // 13, 14 and 16 to 18: what stands against a record as the next one of a drawer.
 fn judge_next(die: u32, filed: &[u8], count: usize, bytes: &[u8]) -> Judged
     requires { ⌜ Comparable (now filed) ⌝ }
-    ensures { λ r. ⌜ r ≡ judgedOf (nextAnswer die (filedIn (now (filed .entry)) .layout) (drawer count (now (bytes .entry)))) ⌝ }
+    ensures { λ r. ⌜ r ≡ judgedOf (inOrder (judgeNext die (filedIn (now (filed .entry)) .layout) (drawer count (now (bytes .entry))))) ⌝ }
 {
     let checked = check_drawer(count, bytes);
     let Judged::Passed = checked else {

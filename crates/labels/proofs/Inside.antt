@@ -20,11 +20,11 @@ use lib.Dec.{eqb}
 use lib.ListN.{length, getD, set, take, replicate, length-set, length-replicate, getD-replicate}
 use lib.Seq.{getD-set-same, getD-set-other, getD-take, take-suc-set, length-take-le, ext-getD}
 use Rattle.maps.specs.Least.{nth}
-use Rattle.maps.specs.Map.{Map, IsDart, sew}
+use Rattle.maps.specs.Map.{Map, IsDart}
 use Rattle.maps.specs.Accepted.{ToDarts}
 use Rattle.maps.proofs.Least.{Tested, passes, fails, tested, nth-suc}
 use Rattle.labels.specs.Queue.{labelIn, visit, serve, served, labelling}
-use Rattle.labels.specs.Inside.{DartsOnce, Labels, Holds, Meets, Reaches}
+use Rattle.labels.specs.Inside.{DartsOnce, Holds, Meets}
 use Rattle.labels.proofs.Queue.{labelIn-nil, labelIn-le, nth-labelIn, labelIn-snoc-new, labelIn-snoc-other, visit-new, queue-zero, queue-room, queue-short, grown-length, served-zero, served-suc, served-grown, served-queue, served-labelling}
 
 module _ {labels queue : List ℕ} {given : ℕ} {q : List ℕ} (h : Holds labels queue given q) where

@@ -12,16 +12,16 @@
 --     judges-only, check-only                no second answer fits
 -- Assumes nothing.
 use Prim.Native.Nat.{ℕ, _*_, _≤_, _<_}
-use mathlib.Core.Path.{_≡_, refl, sym, ap, _∙_}
+use mathlib.Core.Path.{_≡_, sym, ap, _∙_}
 use mathlib.Core.Bool.{Bool, true, false}
-use mathlib.Core.List.{List, [], _∷_, _++_}
+use mathlib.Core.List.{List, [], _∷_}
 use mathlib.Core.Logic.{_↔_, ⊎-elim}
 use native.Mathlib.Omega.{arith}
 use native.Mathlib.Nat.{eq-zero-or-pos}
 use borrow.Author.Tests.{eq-eqb, ne-eqb, eqb-true, eqb-false}
 use lib.Dec.{eqb}
 use lib.ListN.{length}
-use Rattle.maps.specs.Map.{Map, IsDart, sew}
+use Rattle.maps.specs.Map.{Map, IsDart}
 use Rattle.maps.specs.Accepted.{ToDarts, OpenMap, Path, Connected, Accepted}
 use Rattle.maps.specs.Given.{Given, mapOf, Shaped}
 use Rattle.maps.specs.Verdict.{Verdict, accepted, refused, accepts, unless, atLeast, inOrder}
@@ -32,7 +32,7 @@ use Rattle.maps.specs.declared.Judged.{Judged}
 use Rattle.maps.specs.declared.Output.{Output}
 use Rattle.maps.proofs.Least.{Tested, passes, fails, tested, Found, least-none, none-least, least-found, least-is}
 use Rattle.maps.proofs.Verdict.{inOrder-passed, inOrder-refused, inOrder-first, inOrder-one, inOrder-accepts, atLeast-some}
-use Rattle.maps.proofs.Lines.{Clear, clear, past, shows-only, shows-clear, clear-shows, clear-join, clear-split, shows-then, shows-last, shows-least, shape-shows, shape-clear, room-shows, entries-shows, entries-clear, sewing-clear}
+use Rattle.maps.proofs.Lines.{Clear, clear, past, shows-clear, clear-shows, clear-join, clear-split, shows-then, shows-last, shows-least, shape-shows, shape-clear, room-shows, entries-shows, entries-clear}
 use Rattle.maps.proofs.Answer.{judged-only}
 use Rattle.labels.specs.Queue.{labelIn, labelling}
 use Rattle.labels.specs.Judging.{notReached, judgeMap, tableAnswer, checkAnswer, Judges}

@@ -1,9 +1,6 @@
 -- The theorems of `specs/Theorems.antt`. Assumes nothing.
-use Prim.Native.Nat.{ℕ, _≤_}
-use mathlib.Core.Path.{_≡_, refl}
+use mathlib.Core.Path.{refl}
 use native.Mathlib.Omega.{arith}
-use Rattle.maps.specs.Given.{Given, mapOf}
-use Rattle.maps.specs.Verdict.{accepted}
 use Rattle.maps.specs.Lines.{shapeLines, roomLines, entryLines, mapLines, tableLines, checkLines}
 use Rattle.maps.specs.Rules.{judgeOutput}
 use Rattle.maps.proofs.Lines.{hasNumber, shows-without, shows-most}

@@ -16,7 +16,7 @@ use mathlib.Core.List.{List}
 use lib.Dec.{eqb}
 use lib.ListN.{length, getD, take, replicate}
 use Rattle.maps.specs.Least.{nth, least}
-use Rattle.maps.specs.Map.{Map, IsDart, sew}
+use Rattle.maps.specs.Map.{Map, IsDart}
 use Rattle.maps.specs.Accepted.{ToDarts}
 use Rattle.maps.specs.Given.{Given, mapOf, Shaped}
 use Rattle.maps.specs.Answer.{backsOf}

@@ -7,7 +7,7 @@ use Prim.Native.Nat.{ℕ}
 use Rattle.maps.specs.Given.{lent}
 use Rattle.drawer.specs.Record.{Filed, recordBytes}
 use Rattle.drawer.proofs.Opened.{opened}
-use Rattle.lister.specs.Listing.{digits, decimal, spaced, refusedWord, shortWord, shownFault, lineFor, lineOf, linesTo, shortEnd, listing}
+use Rattle.lister.specs.Listing.{digits, decimal, spaced, refusedWord, shortWord, shownFault, acceptedLine, refusedLine, lineFor, lineOf, linesTo, shortEnd, listing}
 
 -- case F as die 501
 abbrev pub die501 : Filed
@@ -18,7 +18,7 @@ die501 =
     }
 
 pub listing-501 : listing (recordBytes die501) ≡ 53 ∷ 48 ∷ 49 ∷ 32 ∷ 50 ∷ 32 ∷ 55 ∷ 32 ∷ 49 ∷ 32 ∷ 55 ∷ 10 ∷ []
-unfolding opened digits decimal spaced refusedWord shortWord shownFault lineFor lineOf linesTo shortEnd listing
+unfolding opened digits decimal spaced refusedWord shortWord shownFault acceptedLine refusedLine lineFor lineOf linesTo shortEnd listing
 listing-501 = refl
 
 -- `refused` and `short` as bytes, between spaces
@@ -62,10 +62,10 @@ printed =
     ∷ []
 
 pub lines-printed : lines ≡ printed
-unfolding opened digits decimal spaced refusedWord shortWord shownFault lineFor lineOf
+unfolding opened digits decimal spaced refusedWord shortWord shownFault acceptedLine refusedLine lineFor lineOf
 lines-printed = refl
 
 -- `short 10` for ten bytes, and nothing for none
 pub short-printed : (listing (replicate 10 0) ≡ 115 ∷ 104 ∷ 111 ∷ 114 ∷ 116 ∷ 32 ∷ 49 ∷ 48 ∷ 10 ∷ []) × (listing [] ≡ [])
-unfolding opened digits decimal spaced refusedWord shortWord shownFault lineFor lineOf linesTo shortEnd listing
+unfolding opened digits decimal spaced refusedWord shortWord shownFault acceptedLine refusedLine lineFor lineOf linesTo shortEnd listing
 short-printed = (refl, refl)

@@ -30,16 +30,16 @@ use Rattle.words.specs.declared.least_word.Signed.the-variants.{Word, Refused}
 use Rattle.drawer.specs.Record as records
 use Rattle.drawer.specs.Record.{recordSize, filedIn, readTable}
 use Rattle.drawer.specs.Drawer.{isBad}
-use Rattle.drawer.specs.Answers.{readFor, isRead, entryOf, tableOver}
+use Rattle.drawer.specs.Answers.{readFor, readingOf, isRead, entryOf, tableOver}
 use Rattle.drawer.specs.declared.fields.Reading.{Reading}
 use Rattle.drawer.specs.declared.fields.Reading.the-variants.{Layout}
 use Rattle.drawer.specs.declared.table.Entry.the-variants as entry
 use Rattle.drawer.proofs.Reading.{map-accepts, table-good, length-table}
 use Rattle.drawer.proofs.Writing.{room-enough}
 use Rattle.drawer.proofs.Inside.{isLayout}
-use Rattle.lister.specs.Listing.{decimal, spaced, shownFault, shownReading, lineFor, lineOf, shortEnd, lineFrom}
+use Rattle.lister.specs.Listing.{decimal, spaced, shownFault, shownReading, acceptedLine, refusedLine, lineFor, lineOf, shortEnd, lineFrom}
 use Rattle.lister.specs.Answer.{PrintedAs}
-use Rattle.lister.specs.Inside.{acceptedAs, refusedAs, faultShown}
+use Rattle.lister.specs.Inside.{faultShown}
 use Rattle.lister.specs.declared.Line.{Line}
 
 -- a line that is another
@@ -66,7 +66,7 @@ module _ (g : Given) (takes : accepts (checkAnswer g) ≡ true) where
 
 -- what the display shows of a reading, by the answer that stands for it
 shown-for : (k : ℕ) (x : records.Reading) → faultShown k (readFor x) ≡ shownReading k x
-unfolding faultShown readFor shownReading shownFault refused
+unfolding readFor readingOf shownReading shownFault refused
 shown-for k (records.good f) = refl
 shown-for k (records.bad records.wrong-dimension) = refl
 shown-for k (records.bad records.wrong-size) = refl
@@ -77,26 +77,26 @@ shown-for k (records.bad (records.no-map v)) = refl
 shown-for k (records.bad records.other-word) = refl
 
 -- the line of a reading whose answer is no layout
-line-fault : (k die : ℕ) (x : records.Reading) → isLayout (readFor x) ≡ false → refusedAs die (faultShown k (readFor x)) ≡ lineFor k die x
-unfolding isLayout readFor lineFor refusedAs shownReading
+line-fault : (k die : ℕ) (x : records.Reading) → isLayout (readFor x) ≡ false → refusedLine die (faultShown k (readFor x)) ≡ lineFor k die x
+unfolding isLayout readFor lineFor shownReading
 line-fault k die (records.good f) e = absurd (true-not-false refl e)
-line-fault k die (records.bad f) e = ap (refusedAs die) (shown-for k (records.bad f))
+line-fault k die (records.bad f) e = ap (refusedLine die) (shown-for k (records.bad f))
 
 pub fault-listed : (k die : ℕ) (r : List ℕ) (h : Reading) → die ≡ filedIn r .die → h ≡ readFor (readTable r) → isLayout h ≡ false →
-    refusedAs die (faultShown k h) ≡ lineOf k r
+    refusedLine die (faultShown k h) ≡ lineOf k r
 unfolding lineOf
 fault-listed k die r h is-die is e =
     rw is (line-fault k die (readTable r) (sym (ap isLayout is) ∙ e)) ∙ ap (λ (d : ℕ). lineFor k d (readTable r)) is-die
 
 -- the line of a filed layout
-layout-listed : (k die : ℕ) (r : List ℕ) → die ≡ filedIn r .die → readTable r ≡ records.good (filedIn r) → acceptedAs die (filedIn r .layout) ≡ lineOf k r
-unfolding lineOf lineFor acceptedAs
+layout-listed : (k die : ℕ) (r : List ℕ) → die ≡ filedIn r .die → readTable r ≡ records.good (filedIn r) → acceptedLine die (filedIn r .layout) ≡ lineOf k r
+unfolding lineOf lineFor
 layout-listed k die r is-die is = rw (is, is-die) refl
 
 -- the numbers that the signature gives stand in the line
 pub accepted-listed : (die : ℕ) (g : Given) (s k : ℕ) (r : Line) → (s ≡ start (mapOf g)) × (k ≡ symmetries (mapOf g)) →
-    PrintedAs (spaced (decimal die ∷ decimal (g .n) ∷ decimal (g .m) ∷ decimal k ∷ decimal s ∷ [])) r → PrintedAs (acceptedAs die g) r
-unfolding acceptedAs
+    PrintedAs (spaced (decimal die ∷ decimal (g .n) ∷ decimal (g .m) ∷ decimal k ∷ decimal s ∷ [])) r → PrintedAs (acceptedLine die g) r
+unfolding acceptedLine
 accepted-listed die g s k r is line = rw (is .0, is .1) at line
 
 -- an answer that is a layout stands for a filed one
@@ -165,8 +165,8 @@ module _ (r before : List ℕ) (long : length r ≡ recordSize) (room : 1020 ≤
           let whole : Shaped (filedIn r .layout) = record { bounds = good-here .0 .bounds; long = length-table r } in
           ap (λ (l : Given). accepts (checkAnswer l)) lent-is ∙ ap accepts (shaped-map (filedIn r .layout) whole) ∙ map-accepts (mapOf (filedIn r .layout)) (good-here .0)
 
-      pub layout-line : (k : ℕ) → acceptedAs die (lent n m (take (n * m) after)) ≡ lineOf k r
-      layout-line k = ap (acceptedAs die) lent-is ∙ layout-listed k die r (entry-says .0) (good-here .1)
+      pub layout-line : (k : ℕ) → acceptedLine die (lent n m (take (n * m) after)) ≡ lineOf k r
+      layout-line k = ap (acceptedLine die) lent-is ∙ layout-listed k die r (entry-says .0) (good-here .1)
 
 -- any bytes
 pub from-short : (k : ℕ) (bytes : List ℕ) → length bytes < 2048 → shortEnd (length bytes) ≡ lineFrom k bytes

@@ -4,16 +4,15 @@
 --     put-laid, put-join            text put at once, and before text that was put
 --     printed                       what was put before the end of an array of zeros is the line
 -- Assumes nothing.
-use Prim.Native.Nat.{ℕ, zero, suc, _+_, _-_, _*_, _/_, _%_, _^_, _≤_, _<_}
+use Prim.Native.Nat.{ℕ, zero, suc, _+_, _-_, _/_, _%_, _^_, _≤_, _<_}
 use mathlib.Core.Path.{_≡_, refl, sym, ap, _∙_}
-use mathlib.Core.Bool.{true, false, cond}
 use mathlib.Core.List.{List, [], _∷_, _++_, append-nil, append-assoc}
 use native.Mathlib.Omega.{arith}
 use native.Mathlib.Nat.{pow-suc, div-lt-iff-lt-mul}
-use borrow.Author.Tests.{lt-ltb, le-ltb, ltb-true, ltb-false}
+use borrow.Author.Tests.{lt-ltb, le-ltb, ltb-false}
 use lib.Dec.{ltb}
 use lib.Seq.{length-take-le, take-set-le, drop-set-lt, drop-cons, getD-set-same, take-take, take-at, drop-at}
-use lib.ListN.{length, getD, set, take, drop, replicate, length-append, length-drop, length-set, length-replicate, take-append-drop}
+use lib.ListN.{length, set, take, drop, replicate, length-append, length-drop, length-set, length-replicate, take-append-drop}
 use Rattle.maps.proofs.Least.{Tested, passes, fails, tested}
 use Rattle.words.proofs.Sign.{take-replicate}
 use Rattle.lister.specs.Listing.{digits, decimal}

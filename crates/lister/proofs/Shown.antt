@@ -1,22 +1,22 @@
 -- A record's number and place are what its lines show (`RecordShows` of `specs/Listing.antt`). Assumes nothing.
-use Prim.Native.Nat.{ℕ, _*_, _≤_, _<_}
-use mathlib.Core.Path.{_≡_, refl, sym, ap, _∙_}
+use Prim.Native.Nat.{ℕ, _*_, _≤_}
+use mathlib.Core.Path.{_≡_, refl, sym, _∙_}
 use mathlib.Core.Bool.{Bool, true, false, _&&_}
 use mathlib.Core.List.{List, [], _∷_}
 use mathlib.Core.Logic.{_↔_, _⊎_, inl, inr}
 use native.Mathlib.Omega.{arith}
-use borrow.Author.Tests.{eqb-true, eqb-false, ne-eqb, leb-true, leb-false, le-leb, lt-leb}
+use borrow.Author.Tests.{eqb-true, eqb-false, leb-true, leb-false}
 use lib.Dec.{eqb, leb}
 use Rattle.maps.specs.Given.{Given, mapOf}
 use Rattle.maps.specs.Verdict.{Verdict, accepted, refused, accepts, unless, inOrder}
 use Rattle.maps.specs.Rules.{judgeDimension, judgeSize}
-use Rattle.maps.specs.Lines.{Line, Shows, none, here, on, plain, mapLines}
+use Rattle.maps.specs.Lines.{Line, Shows, none, here, on, plain}
 use Rattle.maps.proofs.Least.{Tested, passes, fails, tested, true-not-false}
-use Rattle.maps.proofs.Verdict.{inOrder-passed, inOrder-refused, unless-accepts, unless-refused, unless-passed}
-use Rattle.maps.proofs.Lines.{Clear, past, clear, shows-then, shows-last, shows-unless}
+use Rattle.maps.proofs.Verdict.{inOrder-passed, inOrder-refused, unless-accepts, unless-refused}
+use Rattle.maps.proofs.Lines.{Clear, past, shows-then, shows-last, shows-unless, bounds-fail}
 use Rattle.labels.specs.Judging.{judgeMap}
 use Rattle.labels.proofs.Judging.{map-shows}
-use Rattle.drawer.specs.Record.{Fault, wrong-dimension, wrong-size, no-die, zero-byte, filling, no-map, Reading, good, filedIn, zeroByteIn, fillingIn, allZero, provided, readTable}
+use Rattle.drawer.specs.Record.{Fault, no-map, Reading, good, filedIn, zeroByteIn, fillingIn, allZero, provided, readTable}
 use Rattle.lister.specs.Listing.{shownFault, shownReading, recordLines, RecordShows}
 
 -- the next test of a reading is the next verdict
@@ -99,19 +99,6 @@ module _ (k : ℕ) (r : List ℕ) where
       at (passes e) = simp e (on {l = wrong-line} (λ p h. true-not-false e (wrong-says .1 (h .1))) none)
       at (fails e) = simp e (here {l = wrong-line} (omega arith) (refl, wrong-says .0 e) (λ q less h. omega (arith, h .0)))
 
--- a test of two bounds, the first from 1
-outside : (a b c : ℕ) → ((leb 1 a && leb b c) ≡ false) ↔ ((a ≡ 0) ⊎ (c < b))
-outside a b c = (to (tested (leb 1 a)), back (tested (leb 1 a)))
-  where
-    to : Tested (leb 1 a) → (leb 1 a && leb b c) ≡ false → (a ≡ 0) ⊎ (c < b)
-    to (passes low) e = inr (leb-false b c (simp low at e))
-    to (fails low) e = inl (omega (arith, leb-false 1 a low))
-
-    back : Tested (leb 1 a) → (a ≡ 0) ⊎ (c < b) → (leb 1 a && leb b c) ≡ false
-    back (fails low) h = simp low
-    back (passes low) (inl z) = absurd (omega (arith, leb-true 1 a low))
-    back (passes low) (inr over) = simp (low, lt-leb b c over)
-
 cleared-low : {a : ℕ} {B : Type 0} {n : ℕ} → Clear (plain n ((a ≡ 0) ⊎ B) ∷ []) → 1 ≤ a
 cleared-low {a} (past silent rest) = let some : ¬ (a ≡ 0) = λ z. silent 0 (refl, inl z) in omega arith
 
@@ -120,7 +107,7 @@ unfolding RecordShows recordLines judgeDimension judgeSize mapOf
 record-shows k r =
     let l : Given = filedIn r .layout in
     rw (shown-order k r)
-    (shows-then _ (shows-unless 1 _ (omega arith) (outside (l .n) (l .n) 4))
+    (shows-then _ (shows-unless 1 _ (omega arith) (bounds-fail (l .n) (l .n) 4))
     (λ c.
-    shows-then _ (shows-unless 2 _ (omega arith) (outside (l .m) (l .n * l .m) 1020))
+    shows-then _ (shows-unless 2 _ (omega arith) (bounds-fail (l .m) (l .n * l .m) 1020))
     (λ d. shows-then _ (line14 k r) (λ e. shows-last (map-shows (mapOf l) (cleared-low c) (cleared-low d))))))

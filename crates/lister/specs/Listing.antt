@@ -2,6 +2,8 @@
 --     decimal x          the digits of x
 --     spaced ws          words with one space between, and a newline
 --     shownFault k f     the number and place for the fault f of record k
+--     acceptedLine, refusedLine
+--                        the two kinds of line of a record
 --     lineOf k r         the line for record k, whose bytes are r
 --     shortEnd k         what a short end of k bytes prints
 --     lineFrom k bytes   the line for bytes handed in as record k: a record's, or a short end's
@@ -15,12 +17,12 @@ use mathlib.Core.Bool.{false, cond}
 use mathlib.Core.Logic.{_⊎_}
 use mathlib.Core.List.{List, [], _∷_, _++_}
 use lib.Dec.{eqb, ltb, leb}
-use lib.ListN.{length, take, drop}
-use Rattle.maps.specs.Given.{mapOf}
+use lib.ListN.{length, take}
+use Rattle.maps.specs.Given.{Given, mapOf}
 use Rattle.maps.specs.Verdict.{Verdict, accepted, refused}
 use Rattle.maps.specs.Lines.{Line, Shows, plain, mapLines}
 use Rattle.words.specs.Words.{start, symmetries}
-use Rattle.drawer.specs.Record.{Filed, Fault, wrong-dimension, wrong-size, no-die, zero-byte, filling, no-map, other-word, Reading, good, bad, recordSize, filedIn, zeroByteIn, fillingIn, allZero, readTable}
+use Rattle.drawer.specs.Record.{Fault, wrong-dimension, wrong-size, no-die, zero-byte, filling, no-map, other-word, Reading, good, bad, recordSize, filedIn, zeroByteIn, fillingIn, allZero, readTable}
 use Rattle.drawer.specs.Drawer.{recordAt}
 
 -- the last `most` digits of x, without zeros in front
@@ -63,15 +65,19 @@ unfoldable pub shownReading : ℕ → Reading → Verdict
 shownReading k (good f) = accepted
 shownReading k (bad f) = shownFault k f
 
--- "die, n, m, symmetries, start dart"; "A refused record prints: die, `refused`, number, place"
-unfoldable pub lineFor : ℕ → ℕ → Reading → List ℕ
-lineFor k die (good f) =
-    let l = f .layout in
+-- "die, n, m, symmetries, start dart"
+unfoldable pub acceptedLine : ℕ → Given → List ℕ
+acceptedLine die l =
     let M = mapOf l in
     spaced (decimal die ∷ decimal (l .n) ∷ decimal (l .m) ∷ decimal (symmetries M) ∷ decimal (start M) ∷ [])
-lineFor k die (bad f) =
-    let v = shownFault k f in
-    spaced (decimal die ∷ refusedWord ∷ decimal (v .number) ∷ decimal (v .place) ∷ [])
+
+-- "A refused record prints: die, `refused`, number, place"
+unfoldable pub refusedLine : ℕ → Verdict → List ℕ
+refusedLine die v = spaced (decimal die ∷ refusedWord ∷ decimal (v .number) ∷ decimal (v .place) ∷ [])
+
+unfoldable pub lineFor : ℕ → ℕ → Reading → List ℕ
+lineFor k die (good f) = acceptedLine die (f .layout)
+lineFor k die (bad f) = refusedLine die (shownFault k f)
 
 unfoldable pub lineOf : ℕ → List ℕ → List ℕ
 lineOf k r = lineFor k (filedIn r .die) (readTable r)

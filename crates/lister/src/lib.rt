@@ -8,9 +8,9 @@ ghost use Rattle.maps.specs.Given.{lent};
 ghost use Rattle.maps.specs.Verdict.{accepts};
 ghost use Rattle.labels.specs.Judging.{checkAnswer};
 ghost use Rattle.drawer.specs.Record.{recordSize};
-ghost use Rattle.lister.specs.Listing.{decimal, spaced, refusedWord, shortWord, lineOf, lineFrom, shortEnd};
+ghost use Rattle.lister.specs.Listing.{decimal, spaced, refusedWord, acceptedLine, refusedLine, lineOf, lineFrom, shortEnd};
 ghost use Rattle.lister.specs.Answer.{PrintedAs};
-ghost use Rattle.lister.specs.Inside.{Room, Put, acceptedAs, refusedAs, faultShown};
+ghost use Rattle.lister.specs.Inside.{Room, Put, faultShown};
 use drawer::Entry;
 use drawer::Reading;
 use maps::Judged;
@@ -124,9 +124,10 @@ fn short_line(count: usize) -> Line
 
 // The line of a record that is refused: 14 is shown with the record's own number.
 fn fault_line(number: usize, die: usize, reading: Reading) -> Line
-    ensures { λ r. ⌜ PrintedAs (refusedAs die (faultShown number reading)) r ⌝ }
+    ensures { λ r. ⌜ PrintedAs (refusedLine die (faultShown number reading)) r ⌝ }
 {
     match reading {
+        // Never so: what is read goes to table_line.
         Reading::Layout { .. } => refused_line(die, 0, 0),
         Reading::WrongDimension => refused_line(die, 1, 0),
         Reading::WrongSize => refused_line(die, 2, 0),
@@ -141,10 +142,10 @@ fn fault_line(number: usize, die: usize, reading: Reading) -> Line
     }
 }
 
-// The line of an accepted map. That the signature refuses it is shut out.
+// The line of an accepted map. The signature cannot refuse it.
 fn table_line(die: usize, n: usize, m: usize, table: &[u16]) -> Line
     requires { ⌜ accepts (checkAnswer (lent n m (now table))) ≡ true ⌝ }
-    ensures { λ r. ⌜ PrintedAs (acceptedAs die (lent n m (now (table .entry)))) r ⌝ }
+    ensures { λ r. ⌜ PrintedAs (acceptedLine die (lent n m (now (table .entry)))) r ⌝ }
 {
     let mut word = [0u16; 1020];
     let signed = words::signature(n, m, table, &mut word);
@@ -154,7 +155,7 @@ fn table_line(die: usize, n: usize, m: usize, table: &[u16]) -> Line
     accepted_line(die, n, m, symmetries, start)
 }
 
-// The line of a record. Bytes that are not read are shut out.
+// The line of a record. Its bytes cannot be too few to be read.
 fn record_line(number: usize, bytes: &[u8]) -> Line
     requires { ⌜ length (now bytes) ≡ recordSize ⌝ }
     ensures { λ r. ⌜ PrintedAs (lineOf number (now (bytes .entry))) r ⌝ }

@@ -3,7 +3,7 @@
 --     as-same                             judges that agree on a table have the same answers
 --     passed-accepts, refused-accepts     an answer is `Passed` exactly when its verdict accepts
 --     refused-is, refused-low             a refusal has the number and place of its verdict, and a number from 1
---     judged-of-refused                   the answer for a refusal
+--     judged-passed, judged-refused       the answer that stands for a verdict
 --     judged-only                         no second answer fits
 --     verdictOf-judgedOf                  an answer's number and place are its verdict's
 --     Backs M k held                      at each dart stands the least of the first k darts that β1 takes there, or 0
@@ -13,9 +13,9 @@
 --     clash-sewn, clash-unsewn            rule 6 at a dart, by what stands in the array
 --     backs-sew                           β0 of a dart, read off the array
 -- Assumes nothing.
-use Prim.Native.Nat.{ℕ, suc, _+_, _-_, _≤_, _<_}
+use Prim.Native.Nat.{ℕ, suc, _-_, _≤_}
 use mathlib.Core.Path.{_≡_, refl, sym, ap, _∙_}
-use mathlib.Core.Bool.{Bool, true, false, cond, _&&_}
+use mathlib.Core.Bool.{true, false}
 use mathlib.Core.List.{List, map}
 use native.Mathlib.Omega.{arith}
 use borrow.Author.Tests.{eq-eqb, ne-eqb, eqb-true, eqb-false, lt-ltb}
@@ -30,7 +30,7 @@ use Rattle.maps.specs.Rules.{givenBefore}
 use Rattle.maps.specs.Answer.{verdictOf, judgedOf, backsOf, JudgedAs}
 use Rattle.maps.specs.declared.Judged.{Judged}
 use Rattle.maps.specs.declared.Judged.the-variants.{Passed, Refused}
-use Rattle.maps.proofs.Least.{least-hit, least-miss, least-kept, least-none, sought, Sought, nowhere, somewhere, Tested, passes, fails, tested, some-cong, length-upTo, nth-map-upTo, nth-suc}
+use Rattle.maps.proofs.Least.{least-hit, least-miss, least-kept, sought, Sought, nowhere, somewhere, Tested, passes, fails, tested, some-cong, length-upTo, nth-map-upTo, nth-suc}
 use Rattle.maps.proofs.Map.{takes, sew-beta, sew-back}
 use Rattle.maps.proofs.Verdict.{refused-refuses}
 
@@ -89,10 +89,14 @@ refused-low v k p is =
     let number : v .number ≡ k = ap (λ (w : Verdict). w .number) (refused-is v k p is) in
     omega arith
 
--- the answer for a refusal
-pub judged-of-refused : {v : Verdict} (k p : ℕ) → 1 ≤ k → v ≡ refused k p → judgedOf v ≡ Refused k p
+-- the answer that stands for a verdict
+pub judged-passed : {v : Verdict} → v ≡ accepted → Passed ≡ judgedOf v
+unfolding judgedOf accepts accepted
+judged-passed is = rw is refl
+
+pub judged-refused : {v : Verdict} (k p : ℕ) → 1 ≤ k → v ≡ refused k p → Refused k p ≡ judgedOf v
 unfolding judgedOf refused
-judged-of-refused k p low is = let refuses : accepts (refused k p) ≡ false = refused-refuses k p low in rw is (simp refuses)
+judged-refused k p low is = let refuses : accepts (refused k p) ≡ false = refused-refuses k p low in rw is (simp refuses)
 
 -- no second answer fits, nor a second array
 pub judged-only : (judge : Given → Verdict) (g : Given) (r s : Judged) (held kept : List ℕ) → JudgedAs judge g r held → JudgedAs judge g s kept → (r ≡ s) × (held ≡ kept)

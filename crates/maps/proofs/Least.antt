@@ -1,5 +1,5 @@
 -- The laws of `specs/Least.antt`: places, the first numbers, and the least number that passes a test.
---     nth-suc, nth-past           what stands at a place, and past the end
+--     nth-suc, nth-at, nth-past   what stands at a place, and past the end
 --     nth-append                  a place of the first of two lists
 --     length-upTo, nth-map-upTo   a list made by a function of the numbers 1 to k
 --     Tested, tested              whether a test passes, as a sum to take apart
@@ -9,9 +9,10 @@
 --     least-is                    the one that passes while no lower one does
 --     least-cong                  tests that agree have the same least
 --     passed-..                   a search that goes from 1 upwards
+--     count-hit, count-miss       how many pass, at one number more
 --     count-le, count-passed      how many pass: at most k, and at least 1 where one is known to pass
 -- Assumes nothing.
-use Prim.Native.Nat.{ℕ, zero, suc, _+_, _≤_, _<_}
+use Prim.Native.Nat.{ℕ, zero, suc, _+_, _-_, _≤_, _<_}
 use mathlib.Core.Path.{_≡_, refl, sym, ap, _∙_}
 use mathlib.Core.Bool.{Bool, true, false, cond}
 use mathlib.Core.List.{List, [], _∷_, _++_, map}
@@ -28,6 +29,11 @@ use Rattle.maps.specs.Least.{nth, upTo, least, some, count}
 pub nth-suc : (xs : List ℕ) (p : ℕ) → nth xs (suc p) ≡ getD xs p 0
 unfolding nth
 nth-suc xs p = refl
+
+-- what an array has at the index of p
+pub nth-at : (xs : List ℕ) (p : ℕ) → 1 ≤ p → nth xs p ≡ getD xs (p - 1) 0
+nth-at xs zero low = absurd (omega arith)
+nth-at xs (suc p) low = let here : suc p - 1 ≡ p = omega arith in rw here (nth-suc xs p)
 
 pub nth-one-more : (xs : List ℕ) (p : ℕ) → nth xs (p + 1) ≡ getD xs p 0
 nth-one-more xs p = rw add-one (nth-suc xs p)
@@ -269,6 +275,16 @@ pub count-le : (k : ℕ) (p : ℕ → Bool) → count k p ≤ k
 unfolding count
 count-le zero p = omega arith
 count-le (suc k) p = omega (arith, count-le k p, one-or-none (p (suc k)))
+
+-- one number more
+module _ (p : ℕ → Bool) (k : ℕ) where
+  pub count-hit : p (suc k) ≡ true → count (suc k) p ≡ count k p + 1
+  unfolding count
+  count-hit hit = simp hit
+
+  pub count-miss : p (suc k) ≡ false → count (suc k) p ≡ count k p
+  unfolding count
+  count-miss miss = simp miss (omega arith)
 
 pub count-passed : (k : ℕ) (p : ℕ → Bool) (d : ℕ) → 1 ≤ d → d ≤ k → p d ≡ true → 1 ≤ count k p
 unfolding count

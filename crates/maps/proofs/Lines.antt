@@ -14,7 +14,7 @@
 --     sewing-shows, sewing-clear     1 to 8
 -- Assumes nothing.
 use Prim.Native.Nat.{ℕ, zero, suc, _+_, _-_, _*_, _≤_, _<_}
-use mathlib.Core.Path.{_≡_, refl, sym, ap, _∙_}
+use mathlib.Core.Path.{_≡_, refl, sym, ap}
 use mathlib.Core.Bool.{Bool, true, false, not, _&&_, _||_}
 use mathlib.Core.List.{List, [], _∷_, _++_}
 use mathlib.Core.Logic.{_↔_, _⊎_, inl, inr}
@@ -25,7 +25,7 @@ use borrow.Author.Tests.{lt-ltb, le-leb, lt-leb, ltb-true, ltb-false, leb-true, 
 use lib.Dec.{eqb, leb, ltb}
 use lib.ListN.{length}
 use Rattle.maps.specs.Least.{least, some}
-use Rattle.maps.specs.Map.{Map, IsDart, sew}
+use Rattle.maps.specs.Map.{Map, sew}
 use Rattle.maps.specs.Accepted.{InBounds, OpenMap}
 use Rattle.maps.specs.Given.{Given, mapOf, Shaped}
 use Rattle.maps.specs.Verdict.{Verdict, accepted, refused, accepts, unless, atLeast, inOrder, ofSecond}
@@ -33,7 +33,7 @@ use Rattle.maps.specs.Lines.{Line, Silent, Shows, none, here, on, plain,
 use Rattle.maps.specs.Rules.{judgeDimension, judgeSize, judgeLength, judgeShape, judgeOutput, Rule, exceeds, givenBefore, unanswered, parted, composesWrong, overRule, clashRule, reverseRule, composeRule, rules, judgedBy, judgeEntries, judgeSewing}
 use Rattle.maps.specs.declared.Output.{Output}
 use Rattle.maps.specs.declared.Output.the-variants.{Nothing, Word, Images}
-use Rattle.maps.proofs.Least.{Tested, passes, fails, tested, true-not-false, Misses, Sought, nowhere, somewhere, sought, Found, some-found, passes-some}
+use Rattle.maps.proofs.Least.{Tested, passes, fails, tested, true-not-false, Sought, nowhere, somewhere, sought, Found, some-found, passes-some}
 use Rattle.maps.proofs.Map.{back-dart, sewn-dart, sewn-low}
 use Rattle.maps.proofs.Verdict.{refused-refuses, inOrder-first, unless-passed, unless-refused}
 use Rattle.maps.proofs.Rules.{atDart, wrongDart, judgedBy-dart}
@@ -156,7 +156,7 @@ shows-most k (here low h f) most = most .0
 shows-most k (on silent s) most = shows-most k s (most .1)
 
 -- a test of two bounds fails exactly when one of them does
-bounds-fail : (a b c : ℕ) → ((leb 1 a && leb b c) ≡ false) ↔ ((a ≡ 0) ⊎ (c < b))
+pub bounds-fail : (a b c : ℕ) → ((leb 1 a && leb b c) ≡ false) ↔ ((a ≡ 0) ⊎ (c < b))
 bounds-fail a b c = (to (tested (leb 1 a)), back (tested (leb 1 a)))
   where
     to : Tested (leb 1 a) → (leb 1 a && leb b c) ≡ false → (a ≡ 0) ⊎ (c < b)

@@ -5,16 +5,16 @@
 --     back-dart                           β0 leads to a dart or to nothing
 --     back-forth, forth-back              β1 after β0, and β0 after β1
 -- Assumes nothing.
-use Prim.Native.Nat.{ℕ, zero, suc, _+_, _≤_, _<_}
-use mathlib.Core.Path.{_≡_, refl, sym, ap, _∙_}
-use mathlib.Core.Bool.{Bool, true, false, cond, _&&_}
+use Prim.Native.Nat.{ℕ, _≤_, _<_}
+use mathlib.Core.Path.{_≡_, refl, sym, _∙_}
+use mathlib.Core.Bool.{Bool, false, cond, _&&_}
 use native.Mathlib.Omega.{arith}
-use borrow.Author.Tests.{lt-ltb, le-leb, lt-leb, le-ltb, leb-true, leb-false, eq-eqb, ne-eqb, eqb-true, eqb-false, ltb-true, ltb-false}
+use borrow.Author.Tests.{le-leb, lt-leb, leb-true, leb-false, eq-eqb, ne-eqb, eqb-true, ltb-true, ltb-false}
 use lib.Dec.{leb, eqb, ltb}
 use Rattle.maps.specs.Least.{least}
 use Rattle.maps.specs.Map.{Map, IsDart, isDart, back, sew}
 use Rattle.maps.specs.Accepted.{OpenMap}
-use Rattle.maps.proofs.Least.{Tested, passes, fails, tested, Found, least-found, least-is, least-none, least-le, true-not-false}
+use Rattle.maps.proofs.Least.{Tested, passes, fails, tested, Found, least-found, least-is, least-le}
 
 module _ (M : Map) (i d : ℕ) where
   pub sew-zero : sew M i 0 ≡ 0

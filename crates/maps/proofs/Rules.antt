@@ -14,7 +14,7 @@
 -- Assumes nothing.
 use Prim.Native.Nat.{ℕ, zero, suc, suc-le-suc, _+_, _-_, _*_, _/_, _%_, _≤_, _<_}
 use mathlib.Core.Path.{_≡_, refl, sym, ap, _∙_}
-use mathlib.Core.Bool.{Bool, true, false, not, _&&_}
+use mathlib.Core.Bool.{Bool, true, false, not}
 use mathlib.Core.List.{List, [], _∷_, _++_, map}
 use mathlib.Core.Logic.{_↔_, _⊎_, inl, inr, ⊎-elim}
 use native.Mathlib.Omega.{arith}
@@ -25,16 +25,16 @@ use lib.ListN.{length}
 use Rattle.maps.specs.Least.{least, some}
 use Rattle.maps.specs.Map.{Map, IsDart, sew}
 use Rattle.maps.specs.Given.{Given, placeOf, mapOf}
-use Rattle.maps.specs.Verdict.{Verdict, accepted, refused, accepts, unless, atLeast, inOrder}
+use Rattle.maps.specs.Verdict.{accepted, refused, accepts, unless, atLeast, inOrder}
 use Rattle.maps.specs.Accepted.{ToDarts}
 use Rattle.maps.specs.Lines.{Entry}
 use Rattle.maps.specs.Rules.{judgeDimension, judgeSize, judgeLength, judgeShape, judgeOutput, Rule, exceeds, givenBefore, unanswered, parted, composesWrong, overRule, clashRule, dartAt, sewingAt, wrongEntry, shownPlace, judgedBy, judgeEntries, judgeSewing}
-use Rattle.maps.specs.Inside.{ruleOf, lowOf, wrongSewing}
+use Rattle.maps.specs.Inside.{ruleOf, lowOf}
 use Rattle.maps.specs.declared.Law.{Law}
 use Rattle.maps.specs.declared.Law.the-variants.{Bounded, Reversed, Composed}
 use Rattle.maps.specs.declared.Output.{Output}
 use Rattle.maps.specs.declared.Output.the-variants.{Nothing, Word, Images}
-use Rattle.maps.proofs.Least.{Tested, passes, fails, tested, true-not-false, Misses, Found, Passed, passed-misses, least-none, none-least, least-found, least-is, passes-some, misses-some, some-misses}
+use Rattle.maps.proofs.Least.{Tested, passes, fails, tested, true-not-false, Misses, Found, Passed, least-none, none-least, least-found, least-is, passes-some, misses-some, some-misses}
 use Rattle.maps.proofs.Map.{back-dart, sewn-dart, sewn-low}
 use Rattle.maps.proofs.Verdict.{inOrder-passed, inOrder-first, inOrder-accepts, inOrder-one, unless-refused, unless-accepts}
 

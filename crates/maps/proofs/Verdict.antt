@@ -2,7 +2,8 @@
 --     refused-refuses                     a refusal does not accept
 --     inOrder-passed, inOrder-refused     the first verdict of a list accepts, or is the answer
 --     inOrder-first                       a list that begins with a refusal shows it
---     atLeast-some                        a verdict by the least wrong place, which is there
+--     inOrder-on, inOrder-last            a list whose first verdict is accepted
+--     atLeast-some, atLeast-none          a verdict by the least wrong place, which is there or is not
 --     inOrder-one                         one verdict, as a list
 --     inOrder-accepts                     a list that accepts is accepted, at place 0
 --     unless-passed, unless-refused       a verdict by a test
@@ -13,7 +14,7 @@ use mathlib.Core.Path.{_≡_, refl, sym, ap, _∙_}
 use mathlib.Core.Bool.{Bool, true, false}
 use mathlib.Core.List.{List, [], _∷_}
 use native.Mathlib.Omega.{arith}
-use borrow.Author.Tests.{ne-eqb}
+use borrow.Author.Tests.{eq-eqb, ne-eqb}
 use lib.Dec.{eqb}
 use Rattle.maps.specs.Verdict.{Verdict, accepted, refused, accepts, unless, atLeast, inOrder}
 use Rattle.maps.proofs.Least.{Tested, passes, fails, tested, true-not-false}
@@ -33,6 +34,15 @@ module _ (v : Verdict) (vs : List Verdict) where
 
   pub inOrder-first : (k p : ℕ) → 1 ≤ k → v ≡ refused k p → inOrder (v ∷ vs) ≡ refused k p
   inOrder-first k p low is = inOrder-refused (ap accepts is ∙ refused-refuses k p low) ∙ is
+
+-- a list whose first verdict is accepted goes on with the others
+pub inOrder-on : (v : Verdict) (vs : List Verdict) → v ≡ accepted → inOrder (v ∷ vs) ≡ inOrder vs
+unfolding accepts accepted
+inOrder-on v vs is = inOrder-passed v vs (ap accepts is)
+
+pub inOrder-last : (v : Verdict) → v ≡ accepted → inOrder (v ∷ []) ≡ accepted
+unfolding inOrder
+inOrder-last v is = inOrder-on v [] is
 
 -- one verdict, as a list
 pub inOrder-one : (v : Verdict) → (accepts v ≡ true → v ≡ accepted) → inOrder (v ∷ []) ≡ v
@@ -70,3 +80,7 @@ unless-accepts false k p low = ap accepts (unless-refused false k p refl) ∙ re
 pub atLeast-some : (k p : ℕ) → (p ≡ 0 → ⊥) → atLeast k p ≡ refused k p
 unfolding atLeast
 atLeast-some k p some = unless-refused (eqb p 0) k p (ne-eqb p 0 some)
+
+pub atLeast-none : (k p : ℕ) → p ≡ 0 → atLeast k p ≡ accepted
+unfolding atLeast
+atLeast-none k p none = unless-passed (eqb p 0) k p (eq-eqb p 0 none)

@@ -41,7 +41,7 @@ ruleOf Bounded = overRule
 ruleOf Reversed = reverseRule
 ruleOf Composed = composeRule
 
--- 5 speaks of every sewing, 7 of β2 and up, and 8 has two sewings below its own
+-- the least sewing that a rule speaks of: 5 of every one, 7 of β2 and up, and 8 of βj with j at least 3, since i runs to j − 2
 unfoldable pub lowOf : Law → ℕ
 lowOf Bounded = 1
 lowOf Reversed = 2

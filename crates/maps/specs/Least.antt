@@ -6,9 +6,9 @@
 --     count k p     how many of the numbers from 1 to k pass p
 -- Assumes nothing.
 use Prim.Native.Nat.{ℕ, zero, suc, _+_}
-use mathlib.Core.Bool.{Bool, true, false, cond}
+use mathlib.Core.Bool.{Bool, cond}
 use mathlib.Core.List.{List, [], _∷_, _++_}
-use lib.Dec.{eqb, ltb}
+use lib.Dec.{ltb}
 use lib.ListN.{getD}
 
 -- what stands at place p of xs, counted from 1: place 0 holds 0, and so does what lies past the end

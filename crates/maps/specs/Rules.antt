@@ -10,14 +10,14 @@
 --     judgeSewing     1 to 8
 -- An entry is βi(d): d is its dart, i its sewing. Rule 9 is `labels`'. Assumes nothing.
 use Prim.Native.Nat.{ℕ, _+_, _-_, _*_, _/_, _%_}
-use mathlib.Core.Bool.{Bool, not, cond, _&&_}
+use mathlib.Core.Bool.{Bool, not, _&&_}
 use mathlib.Core.List.{List, [], _∷_, map}
 use lib.Dec.{eqb, leb, ltb}
 use lib.ListN.{length}
 use Rattle.maps.specs.Least.{least, some}
 use Rattle.maps.specs.Map.{Map, sew}
 use Rattle.maps.specs.Given.{Given, mapOf}
-use Rattle.maps.specs.Verdict.{Verdict, accepted, unless, refused, inOrder}
+use Rattle.maps.specs.Verdict.{Verdict, accepted, unless, inOrder}
 use Rattle.maps.specs.declared.Output.{Output}
 use Rattle.maps.specs.declared.Output.the-variants.{Nothing, Word, Images}
 

@@ -6,10 +6,8 @@
 --     users-start, users-given
 --                        before any dart is passed, and once one more is
 --     parted-read        the test of `parts`, by what is read
---     judged-passed, judged-refused
---                        the answer that stands for a verdict
 --     second-passed, second-refused
---                        the same of a second table
+--                        the answer on a second table
 --     checked            what the plain check leaves of a table
 --     images-long, images-bad, images-parted, images-kept
 --                        `judgeImages` by what is found
@@ -18,7 +16,7 @@
 --                        `judgeAnswer` by what is found
 -- Assumes nothing.
 use Prim.Native.Nat.{ℕ, suc, _+_, _-_, _≤_, _<_}
-use mathlib.Core.Path.{_≡_, refl, sym, ap, subst, _∙_}
+use mathlib.Core.Path.{_≡_, sym, ap, subst, _∙_}
 use mathlib.Core.Bool.{true, false, not}
 use mathlib.Core.List.{List, [], _∷_}
 use mathlib.Core.Logic.{inl, inr}
@@ -36,8 +34,8 @@ use Rattle.maps.specs.Answer.{judgedOf}
 use Rattle.maps.specs.declared.Judged.the-variants.{Passed, Refused}
 use Rattle.maps.proofs.Least.{nth-suc, true-not-false, least-none}
 use Rattle.maps.proofs.Map.{takes, sew-beta}
-use Rattle.maps.proofs.Verdict.{refused-refuses, inOrder-passed, inOrder-refused, inOrder-first, unless-passed, unless-refused, atLeast-some}
-use Rattle.maps.proofs.Answer.{Backs, backs-start, backs-given, passed-accepts, refused-accepts, refused-is}
+use Rattle.maps.proofs.Verdict.{inOrder-passed, inOrder-refused, inOrder-first, unless-passed, unless-refused, atLeast-some}
+use Rattle.maps.proofs.Answer.{Backs, backs-start, backs-given, passed-accepts, refused-accepts, refused-is, judged-passed, judged-refused}
 use Rattle.labels.specs.Judging.{checkAnswer}
 use Rattle.labels.proofs.Judging.{table-clear, table-whole}
 use Rattle.words.specs.Match.{judgePair}
@@ -101,16 +99,7 @@ parted-read M M′ f d i e x y there image there′ =
     let one : i + 1 ≡ suc i = add-one i in
     cc
 
-pub judged-passed : {v : Verdict} → v ≡ accepted → Passed ≡ judgedOf v
-unfolding judgedOf accepts accepted
-judged-passed is = rw is refl
-
-pub judged-refused : {v : Verdict} (k p : ℕ) → 1 ≤ k → v ≡ refused k p → Refused k p ≡ judgedOf v
-unfolding judgedOf refused
-judged-refused k p low is =
-    let refuses : accepts (refused k p) ≡ false = refused-refuses k p low in
-    rw is (simp refuses)
-
+-- the answer on a second table
 module _ (v : Verdict) where
   pub second-passed : Passed ≡ judgedOf v → Passed ≡ judgedOf (ofSecond v)
   unfolding ofSecond

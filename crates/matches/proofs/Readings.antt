@@ -30,7 +30,7 @@ use Rattle.maps.specs.Rules.{givenBefore}
 use Rattle.maps.proofs.Least.{Tested, passes, fails, tested, nth-zero, map-append, true-not-false}
 use Rattle.maps.proofs.Map.{sew-zero, sew-beta, sew-high}
 use Rattle.maps.proofs.Matching.{image-zero}
-use Rattle.labels.specs.Queue.{labelIn, visit, visits, labelling}
+use Rattle.labels.specs.Queue.{labelIn, visits, labelling}
 use Rattle.labels.specs.Judging.{checkAnswer}
 use Rattle.labels.specs.Theorems.{CheckAccepts}
 use Rattle.labels.proofs.Queue.{visit-nothing, visits-append}
@@ -39,7 +39,7 @@ use Rattle.labels.proofs.Theorems.{check-accepts}
 use Rattle.words.specs.Words.{word, signature}
 use Rattle.words.proofs.Opened.{opened}
 use Rattle.words.proofs.Meaning.{signature-complete}
-use Rattle.words.specs.Match.{imageOfFirst, judgePair, judgeMatching, matchAnswer}
+use Rattle.words.specs.Match.{matchAnswer}
 use Rattle.matches.specs.Judge.{badImage, parts, judgeAnswer}
 use Rattle.matches.specs.Bench.{caseC, caseD, matched}
 use Rattle.matches.proofs.Chains.{labelIn-upTo, chain, chain-unlooped, Last, chain-last, chain-accepted, chain-labelling, chain-read}

@@ -8,7 +8,7 @@ use mathlib.Core.Bool.{Bool, true, _&&_}
 use mathlib.Core.List.{List, [], _∷_}
 use lib.Dec.{eqb}
 use lib.ListN.{replicate}
-use Rattle.maps.specs.Verdict.{Verdict, accepted, refused}
+use Rattle.maps.specs.Verdict.{Verdict}
 use Rattle.maps.specs.Given.{Given, lent}
 use Rattle.labels.specs.Judging.{checkAnswer}
 use Rattle.words.specs.Words.{same}
@@ -53,7 +53,7 @@ signatureE = 3 ∷ 0 ∷ 1 ∷ 0 ∷ 2 ∷ 0 ∷ []
 unfoldable pub signatureF : List ℕ
 signatureF = 3 ∷ 0 ∷ 1 ∷ 0 ∷ 2 ∷ 4 ∷ 6 ∷ 3 ∷ 4 ∷ 0 ∷ 7 ∷ 0 ∷ 5 ∷ 0 ∷ []
 
--- start and symmetries that document 01 leaves out are those of a map with one dart, or of F for G
+-- a start that document 01 leaves out is 1, of a map with one dart; symmetries that it leaves out are 1, and of G those of F
 unfoldable pub bench : List Case
 bench =
     -- A

@@ -7,10 +7,16 @@ pub mod Labels
 pub mod Meaning
 pub mod Lexicographic
 pub mod Starts
+pub mod Forest
 pub mod Standing
 pub mod Racing
 pub mod Sign
 pub mod Theorems
+pub mod Kin
+pub mod Leading
+pub mod Known
+pub mod FirstRow
+pub mod Trying
 pub mod Match
 pub mod MatchTheorems
 pub mod Own

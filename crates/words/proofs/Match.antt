@@ -13,10 +13,10 @@
 --     match-shows              the answer is what its lines show
 --     Cleared, match-clear     what an accepted match has passed
 -- Assumes nothing.
-use Prim.Native.Nat.{ℕ, _+_, _*_, _≤_, _<_}
+use Prim.Native.Nat.{ℕ, _+_, _≤_, _<_}
 use mathlib.Core.Path.{_≡_, refl, sym, ap, _∙_}
-use mathlib.Core.Bool.{Bool, true, false, cond, _&&_}
-use mathlib.Core.List.{List, [], _∷_, _++_}
+use mathlib.Core.Bool.{Bool, true, false, _&&_}
+use mathlib.Core.List.{List, [], _∷_}
 use mathlib.Core.Logic.{_↔_, _⊎_, inl, inr}
 use native.Mathlib.Omega.{arith}
 use native.Mathlib.Nat.{le-refl}
@@ -29,16 +29,16 @@ use Rattle.maps.specs.Accepted.{Accepted}
 use Rattle.maps.specs.Matching.{Matching, Matched}
 use Rattle.maps.specs.Given.{Given, mapOf, Shaped}
 use Rattle.maps.specs.Verdict.{Verdict, accepted, refused, accepts, unless, inOrder, ofSecond}
-use Rattle.maps.specs.Lines.{Shows, here, on, none, plain, tableLines, raised, checkLines}
+use Rattle.maps.specs.Lines.{Shows, here, on, none, plain}
 use Rattle.maps.specs.Rules.{judgeOutput}
 use Rattle.maps.specs.Answer.{judgedOf}
 use Rattle.maps.specs.declared.Judged.{Judged}
 use Rattle.maps.specs.declared.Judged.the-variants.{Passed, Refused}
 use Rattle.maps.specs.declared.Output.the-variants.{Images}
-use Rattle.maps.proofs.Least.{Tested, passes, fails, tested, true-not-false, Found, least-found, least-none, passes-some, some-found, least-is, Sought, nowhere, somewhere, sought, length-upTo}
-use Rattle.maps.proofs.Verdict.{refused-refuses, inOrder-passed, inOrder-refused, inOrder-first, inOrder-accepts, unless-passed, unless-refused, unless-accepts}
-use Rattle.maps.proofs.Lines.{Clear, clear, past, shows-clear, clear-shows, clear-split, plain-silent, shows-then, shows-last, shows-raised, shows-without, both-pass}
-use Rattle.maps.proofs.Answer.{judged-of-refused}
+use Rattle.maps.proofs.Least.{Tested, passes, fails, tested, true-not-false, Found, least-found, Sought, nowhere, somewhere, sought, length-upTo}
+use Rattle.maps.proofs.Verdict.{refused-refuses, inOrder-passed, inOrder-refused, inOrder-first, unless-passed, unless-refused, unless-accepts}
+use Rattle.maps.proofs.Lines.{clear-shows, plain-silent, shows-then, shows-raised, both-pass}
+use Rattle.maps.proofs.Answer.{judged-refused}
 use Rattle.labels.specs.Judging.{tableAnswer, checkAnswer}
 use Rattle.labels.specs.Theorems.{CheckShows}
 use Rattle.labels.proofs.Judging.{table-shows, table-clear, check-whole}
@@ -197,7 +197,7 @@ module _ {a b : Given} {out : List ℕ} where
   pub matches-refused : (k p : ℕ) → 1 ≤ k → matchAnswer a b (length out) ≡ refused k p → MatchesAs a b out (Refused k p) out
   unfolding matchOutput
   matches-refused k p low is =
-      record { answer = sym (judged-of-refused k p low is); written = sym (simp (ap accepts is ∙ refused-refuses k p low)) }
+      record { answer = judged-refused k p low is; written = sym (simp (ap accepts is ∙ refused-refuses k p low)) }
 
   pub matches-passed : {out′ : List ℕ} → matchAnswer a b (length out) ≡ accepted → out′ ≡ over (shown (mapOf a) (mapOf b)) out → MatchesAs a b out Passed out′
   unfolding matchOutput judgedOf accepts accepted

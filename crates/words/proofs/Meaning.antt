@@ -11,11 +11,11 @@
 -- of `labels`. Assumes nothing.
 use Prim.Native.Nat.{ℕ, _*_, _≤_}
 use mathlib.Core.Path.{_≡_, sym, ap, _∙_}
-use mathlib.Core.List.{List, map}
+use mathlib.Core.List.{List}
 use mathlib.Core.Logic.{_↔_}
 use native.Mathlib.Nat.{le-refl, le-antisymm}
 use lib.ListN.{length}
-use Rattle.maps.specs.Least.{nth, upTo}
+use Rattle.maps.specs.Least.{nth}
 use Rattle.maps.specs.Map.{Map, IsDart}
 use Rattle.maps.specs.Accepted.{Accepted}
 use Rattle.maps.specs.Matching.{Matching, Matched}

@@ -26,7 +26,7 @@ use Rattle.words.specs.Theorems.{Covers}
 use Rattle.words.specs.Words.{word, same, less, lesser, leastWord, signature, yields, start, symmetries}
 
 -- a test of two tests
-both-true : (a b : Bool) → (a && b) ≡ true → (a ≡ true) × (b ≡ true)
+pub both-true : (a b : Bool) → (a && b) ≡ true → (a ≡ true) × (b ≡ true)
 both-true true b e = (refl, e)
 both-true false b e = absurd (true-not-false e refl)
 

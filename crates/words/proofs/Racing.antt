@@ -4,13 +4,16 @@
 --     row-number                 the label just met is the word's number at its place
 --     row-good                   the queue holds darts alone, none twice
 --     met-few                    the label met is one of the places
+--     length-front, getD-front, front-whole
+--                                the first rows of a word
 --     Serving, serving-start     k darts are served, and the numbers of their rows judged
 --     Rowing, rowing-start, rowing-turn, rowing-left, rowing-end
 --                                of the next dart some sewings are met, and as many numbers judged
+--     TriedWhole, tried-whole    what trying a start leaves whose rows are all judged
 -- Assumes nothing.
-use Prim.Native.Nat.{ℕ, zero, suc, _+_, _-_, _*_, _≤_, _<_}
+use Prim.Native.Nat.{ℕ, suc, _+_, _-_, _*_, _≤_, _<_}
 use mathlib.Core.Path.{_≡_, refl, sym, ap, _∙_}
-use mathlib.Core.Bool.{Bool, true, false}
+use mathlib.Core.Bool.{Bool, true, false, cond}
 use mathlib.Core.List.{List}
 use native.Mathlib.Omega.{arith}
 use native.Mathlib.Numerals.{add-one}
@@ -18,11 +21,11 @@ use native.Mathlib.Nat.{mul-le-mul-right, mul-comm, suc-mul}
 use borrow.Author.Tests.{eqb-true, eqb-false}
 use lib.Dec.{eqb}
 use lib.ListN.{length, getD, set, take, replicate}
-use lib.Seq.{getD-take}
+use lib.Seq.{getD-take, length-take-le, take-length}
 use Rattle.maps.specs.Least.{nth}
 use Rattle.maps.specs.Map.{Map, IsDart, sew}
 use Rattle.maps.specs.Accepted.{ToDarts, Accepted}
-use Rattle.maps.specs.Given.{placeOf}
+use Rattle.maps.specs.Given.{Given, mapOf, placeOf}
 use Rattle.maps.proofs.Least.{Tested, passes, fails, tested, nth-one-more, nth-suc}
 use Rattle.maps.proofs.Accepted.{darts-most}
 use Rattle.labels.specs.Queue.{labelIn, visit, tried, served, labelling}
@@ -30,8 +33,9 @@ use Rattle.labels.specs.Inside.{DartsOnce, Holds}
 use Rattle.labels.proofs.Queue.{labelIn-nil, labelIn-le, visit-new, visit-labels, served-zero, served-ahead, Grown, grown-trans, grown-label, tried-zero, tried-suc, tried-grown, tried-queue, serve-tried, queue-zero, served-suc, served-next, served-queue, labelling-grown, labelling-queue}
 use Rattle.labels.proofs.Reached.{labelling-numbers}
 use Rattle.labels.proofs.Inside.{holds-same, holds-length, holds-blank, holds-new}
-use Rattle.words.specs.Words.{word}
-use Rattle.words.specs.Inside.{Met, Weighed, leavesAt}
+use Rattle.words.specs.Words.{word, lesser}
+use Rattle.words.specs.Sign.{over}
+use Rattle.words.specs.Inside.{sideOf, Met, Weighed, leavesAt, front, Tried}
 use Rattle.words.specs.declared.engine.Side.{Side}
 use Rattle.words.specs.declared.engine.Side.the-variants.{Same}
 use Rattle.words.specs.declared.engine.Labelling.{Labelling}
@@ -98,19 +102,37 @@ module _ {M : Map} (a : Accepted M) (d : ℕ) (dart : IsDart M d) (k : ℕ) (tur
           ∙ ap (nth (word M d)) index
           ∙ nth-one-more (word M d) (k * M .dim + i)
 
+-- the first rows of a word: as long as they say, and with the word's numbers
+module _ {M : Map} (a : Accepted M) (d : ℕ) (dart : IsDart M d) (rows : ℕ) (most : rows ≤ M .darts) where
+  pub length-front : length (front M d rows) ≡ rows * M .dim
+  unfolding front
+  length-front =
+      length-take-le (rows * M .dim) (word M d)
+      (omega (arith, length-word a d dart, mul-comm (M .darts) (M .dim), mul-le-mul-right (M .dim) most))
+
+  pub getD-front : (p : ℕ) → p < rows * M .dim → getD (front M d rows) p 0 ≡ getD (word M d) p 0
+  unfolding front
+  getD-front p inside = getD-take (rows * M .dim) (word M d) p 0 inside
+
+-- all rows are the word
+pub front-whole : {M : Map} → Accepted M → (d : ℕ) → IsDart M d → front M d (M .darts) ≡ word M d
+unfolding front
+front-whole {M} a d dart =
+    ap (λ (k : ℕ). take k (word M d)) (mul-comm (M .darts) (M .dim) ∙ sym (length-word a d dart)) ∙ take-length (word M d)
+
 -- k darts are served, and the numbers of their rows judged
-pub record Serving (M : Map) (d : ℕ) (firm : Bool) (held₀ labels queue held : List ℕ) (given : ℕ) (side : Side) (p k : ℕ) : Type 0 where
-  pub high : k ≤ M .darts
+pub record Serving (M : Map) (d rows : ℕ) (firm : Bool) (held₀ labels queue held : List ℕ) (given : ℕ) (side : Side) (p k : ℕ) : Type 0 where
+  pub high : k ≤ rows
   pub place : p ≡ k * M .dim
   pub holds : Holds labels queue given (served M d k)
-  pub stands : Standing (word M d) held₀ held firm side p
+  pub stands : Standing (front M d rows) held₀ held firm side p
 
 -- of the next dart β0, β1, .. βi are met, and i numbers of its row judged: however a start stood before, it stands on
-pub record Rowing (M : Map) (d k : ℕ) (firm : Bool) (held₀ labels queue held : List ℕ) (given : ℕ) (side₀ : Side) (p₀ : ℕ) (side : Side) (p i : ℕ) : Type 0 where
+pub record Rowing (M : Map) (d rows k : ℕ) (firm : Bool) (held₀ labels queue held : List ℕ) (given : ℕ) (side₀ : Side) (p₀ : ℕ) (side : Side) (p i : ℕ) : Type 0 where
   pub high : i ≤ M .dim
   pub place : p ≡ p₀ + i
   pub holds : Holds labels queue given (rowOf M d k i)
-  pub stands : (best : List ℕ) → length (word M d) ≤ length best → Standing (word M d) best held₀ firm side₀ p₀ → Standing (word M d) best held firm side p
+  pub stands : (best : List ℕ) → length (front M d rows) ≤ length best → Standing (front M d rows) best held₀ firm side₀ p₀ → Standing (front M d rows) best held firm side p
 
 -- a dart is met: the queue that the arrays held, with it
 met-holds : {labels queue labels′ queue′ q : List ℕ} {given e : ℕ} {r : Labelling}
@@ -126,21 +148,24 @@ pub met-few : {q labels queue : List ℕ} {e : ℕ} {r : Labelling} → Met q e 
 met-few {q} {e = e} met = omega (arith, met .number, labelIn-le (visit q e) e, holds-length (met .holds), met .holds .few)
 
 module _ {M : Map} (a : Accepted M) (d : ℕ) (dart : IsDart M d) where
-  pub serving-start : (firm : Bool) (queue held : List ℕ) → length queue ≡ 1020 → Serving M d firm held (set (replicate 1020 0) (d - 1) 1) (set queue 0 d) held 1 Same 0 0
-  serving-start firm queue held long =
+  pub serving-start : (rows : ℕ) (firm : Bool) (queue held : List ℕ) → length queue ≡ 1020 → Serving M d rows firm held (set (replicate 1020 0) (d - 1) 1) (set queue 0 d) held 1 Same 0 0
+  serving-start rows firm queue held long =
       record {
         high = omega arith;
         place = omega arith;
         holds =
             holds-same (holds-new (holds-blank queue long) d (dart .0) (omega (arith, darts-most (a .bounds), dart .1)) (labelIn-nil d) (omega arith))
             (served-zero M d ∙ sym (visit-new _ d (dart .0) (labelIn-nil d)));
-        stands = standing-start (word M d) held firm;
+        stands = standing-start (front M d rows) held firm;
       }
 
-  module _ {firm : Bool} {held₀ labels queue held : List ℕ} {given : ℕ} {side : Side} {p k : ℕ} (s : Serving M d firm held₀ labels queue held given side p k) (turn : k < M .darts) where
+  module _ {rows : ℕ} (most : rows ≤ M .darts) {firm : Bool} {held₀ labels queue held : List ℕ} {given : ℕ} {side : Side} {p k : ℕ} (s : Serving M d rows firm held₀ labels queue held given side p k) (turn : k < rows) where
+    in-map : k < M .darts
+    in-map = omega arith
+
     -- the dart whose turn it is stands in the array
     ahead : k < given
-    ahead = omega (arith, served-ahead M (a .open-map .to-darts) d dart k (rw (labelling-numbers a d dart .long) turn), holds-length (s .holds))
+    ahead = omega (arith, served-ahead M (a .open-map .to-darts) d dart k (rw (labelling-numbers a d dart .long) in-map), holds-length (s .holds))
 
     pub turn-read : getD queue k 0 ≡ turnOf M d k
     turn-read =
@@ -152,7 +177,7 @@ module _ {M : Map} (a : Accepted M) (d : ℕ) (dart : IsDart M d) where
     turn-good = served-queue M (a .open-map .to-darts) d dart k
 
     -- β0 of it is met, and its row begins
-    pub rowing-start : {labels′ queue′ : List ℕ} {e : ℕ} {r : Labelling} → e ≡ sew M 0 (turnOf M d k) → Met (take given queue) e labels′ queue′ r → Rowing M d k firm held labels′ queue′ held (r .given) side p side p 0
+    pub rowing-start : {labels′ queue′ : List ℕ} {e : ℕ} {r : Labelling} → e ≡ sew M 0 (turnOf M d k) → Met (take given queue) e labels′ queue′ r → Rowing M d rows k firm held labels′ queue′ held (r .given) side p side p 0
     rowing-start {e = e} is met =
         record {
           high = omega arith;
@@ -162,7 +187,7 @@ module _ {M : Map} (a : Accepted M) (d : ℕ) (dart : IsDart M d) where
         }
 
     -- the row ends, and one dart more is served
-    pub rowing-end : {labels′ queue′ held′ : List ℕ} {given′ : ℕ} {side′ : Side} {p′ i : ℕ} → Rowing M d k firm held labels′ queue′ held′ given′ side p side′ p′ i → length (word M d) ≤ length held₀ → M .dim ≤ i → Serving M d firm held₀ labels′ queue′ held′ given′ side′ p′ (k + 1)
+    pub rowing-end : {labels′ queue′ held′ : List ℕ} {given′ : ℕ} {side′ : Side} {p′ i : ℕ} → Rowing M d rows k firm held labels′ queue′ held′ given′ side p side′ p′ i → length (front M d rows) ≤ length held₀ → M .dim ≤ i → Serving M d rows firm held₀ labels′ queue′ held′ given′ side′ p′ (k + 1)
     rowing-end {i = i} w fits done =
         let all : i ≡ M .dim = omega (arith, w .high) in
         record {
@@ -172,18 +197,21 @@ module _ {M : Map} (a : Accepted M) (d : ℕ) (dart : IsDart M d) where
           stands = w .stands held₀ fits (s .stands);
         }
 
-    module _ {labels₁ queue₁ held₁ : List ℕ} {given₁ : ℕ} {side₁ : Side} {p₁ i : ℕ} (w : Rowing M d k firm held labels₁ queue₁ held₁ given₁ side p side₁ p₁ i) (below : i < M .dim) where
+    module _ {labels₁ queue₁ held₁ : List ℕ} {given₁ : ℕ} {side₁ : Side} {p₁ i : ℕ} (w : Rowing M d rows k firm held labels₁ queue₁ held₁ given₁ side p side₁ p₁ i) (below : i < M .dim) where
       -- the place of the number that is judged next
       here : p₁ ≡ k * M .dim + i
       here = w .place ∙ ap (λ (j : ℕ). j + i) (s .place)
 
-      pub row-inside : p₁ < length (word M d)
-      row-inside =
-          let row : suc k * M .dim ≤ M .darts * M .dim = mul-le-mul-right (M .dim) turn in
-          omega (arith, here, length-word a d dart, mul-comm (M .darts) (M .dim), suc-mul k (M .dim))
+      in-rows : p₁ < rows * M .dim
+      in-rows =
+          let row : suc k * M .dim ≤ rows * M .dim = mul-le-mul-right (M .dim) turn in
+          omega (arith, here, suc-mul k (M .dim))
+
+      pub row-inside : p₁ < length (front M d rows)
+      row-inside = omega (arith, in-rows, length-front a d dart rows most)
 
       -- a start that is run on was not left
-      pub row-on : length (word M d) ≤ length held₀ → leavesAt firm side₁ ≡ false
+      pub row-on : length (front M d rows) ≤ length held₀ → leavesAt firm side₁ ≡ false
       row-on fits = w .stands held₀ fits (s .stands) .on
 
       module _ {labels′ queue′ : List ℕ} {e : ℕ} {r : Labelling} (is : e ≡ sew M (suc i) (turnOf M d k)) (met : Met (take given₁ queue₁) e labels′ queue′ r) where
@@ -194,17 +222,18 @@ module _ {M : Map} (a : Accepted M) (d : ℕ) (dart : IsDart M d) where
         row-holds = met-holds (w .holds) met (rowOf M d k (suc i)) next
 
         -- the number that is judged is the word's
-        pub row-judged : r .label ≡ getD (word M d) p₁ 0
+        pub row-judged : r .label ≡ getD (front M d rows) p₁ 0
         row-judged =
             met .number
             ∙ ap (λ (l : List ℕ). labelIn (visit l e) e) (w .holds .so-far)
             ∙ ap (λ (l : List ℕ). labelIn l e) (sym next)
             ∙ ap (labelIn (rowOf M d k (suc i))) is
-            ∙ row-number a d dart k turn i below
+            ∙ row-number a d dart k in-map i below
             ∙ ap (λ (j : ℕ). getD (word M d) j 0) (sym here)
+            ∙ sym (getD-front a d dart rows most p₁ in-rows)
 
         module _ {held′ : List ℕ} {side′ : Side} (weighed : Weighed held₁ held′ p₁ (r .label) side₁ firm side′) where
-          pub rowing-turn : leavesAt firm side′ ≡ false → Rowing M d k firm held labels′ queue′ held′ (r .given) side p side′ (p₁ + 1) (i + 1)
+          pub rowing-turn : leavesAt firm side′ ≡ false → Rowing M d rows k firm held labels′ queue′ held′ (r .given) side p side′ (p₁ + 1) (i + 1)
           rowing-turn on =
               record {
                 high = omega arith;
@@ -213,5 +242,27 @@ module _ {M : Map} (a : Accepted M) (d : ℕ) (dart : IsDart M d) where
                 stands = λ best fits t. standing-turn (w .stands best fits t) fits row-inside (r .label) row-judged weighed on;
               }
 
-          pub rowing-left : length (word M d) ≤ length held₀ → leavesAt firm side′ ≡ true → Ended (word M d) held₀ held′ firm side′
+          pub rowing-left : length (front M d rows) ≤ length held₀ → leavesAt firm side′ ≡ true → Ended (front M d rows) held₀ held′ firm side′
           rowing-left fits gone = standing-left (w .stands held₀ fits (s .stands)) fits row-inside (r .label) row-judged weighed gone
+
+-- a start whose rows were all tried: how its word comes out
+pub record TriedWhole (g : Given) (d : ℕ) (firm : Bool) (held labels′ queue′ held′ : List ℕ) (side : Side) : Type 0 where
+  pub outcome : side ≡ sideOf (word (mapOf g) d) (take (g .n * g .m) held)
+  pub best : held′ ≡ cond firm held (over (lesser (take (g .n * g .m) held) (word (mapOf g) d)) held)
+  pub blank : labels′ ≡ replicate 1020 0
+  pub long-queue : length queue′ ≡ 1020
+  pub whole : leavesAt firm side ≡ false → take (g .m) queue′ ≡ labelling (mapOf g) d
+
+pub tried-whole : {g : Given} {d : ℕ} {firm : Bool} {held labels′ queue′ held′ : List ℕ} {side : Side} → Accepted (mapOf g) → IsDart (mapOf g) d
+    → Tried g d (g .m) firm held labels′ queue′ held′ side → TriedWhole g d firm held labels′ queue′ held′ side
+unfolding mapOf
+tried-whole {g} {d} a dart t =
+    let size : g .m * g .n ≡ g .n * g .m = mul-comm (g .m) (g .n) in
+    let all = front-whole a d dart in
+    record {
+      outcome = rw (all, size) at (t .came .outcome);
+      best = rw (all, size) at (t .came .best);
+      blank = t .blank;
+      long-queue = t .long-queue;
+      whole = λ on. t .whole on refl;
+    }

@@ -13,13 +13,13 @@
 -- Assumes nothing.
 use Prim.Native.Nat.{ℕ, zero, suc, _+_, _*_, _≤_, _<_}
 use mathlib.Core.Path.{_≡_, refl, sym, ap, _∙_}
-use mathlib.Core.Bool.{Bool, true, false, cond}
+use mathlib.Core.Bool.{true, false}
 use mathlib.Core.List.{List, _∷_, _++_}
 use native.Mathlib.Omega.{arith}
 use native.Mathlib.Nat.{le-of-suc-le-suc, zero-add}
 use native.Mathlib.Numerals.{add-one}
 use borrow.Author.Tests.{leb-true, eqb-true, eqb-false}
-use lib.Dec.{eqb, leb}
+use lib.Dec.{eqb}
 use lib.ListN.{length, getD, set, take, drop, replicate, length-append, length-drop, length-set}
 use lib.Seq.{take-append-seam, take-length, paste-suc}
 use Rattle.maps.specs.Map.{Map}
@@ -32,7 +32,7 @@ use Rattle.maps.specs.Answer.{judgedOf}
 use Rattle.maps.specs.declared.Judged.the-variants as judged
 use Rattle.maps.specs.declared.Output.the-variants as output
 use Rattle.maps.proofs.Least.{Tested, passes, fails, tested}
-use Rattle.maps.proofs.Verdict.{unless-accepts, refused-refuses}
+use Rattle.maps.proofs.Verdict.{unless-accepts}
 use Rattle.maps.proofs.Answer.{refused-accepts, refused-is}
 use Rattle.labels.specs.Judging.{tableAnswer}
 use Rattle.labels.proofs.Judging.{table-shows, table-clear, table-whole}
@@ -42,7 +42,8 @@ use Rattle.words.specs.Inside.{Signs}
 use Rattle.words.specs.declared.least_word.Signed.{Signed}
 use Rattle.words.specs.declared.least_word.Signed.the-variants.{Word, Refused}
 use Rattle.words.specs.declared.least_word.Signing.{Signing}
-use Rattle.words.proofs.Starts.{bestAfter-signature, length-bestAfter}
+use Rattle.words.proofs.Words.{length-word}
+use Rattle.words.proofs.Order.{signature-one}
 
 pub take-replicate : (k n x : ℕ) → k ≤ n → take k (replicate n x) ≡ replicate k x
 take-replicate zero n x h = refl
@@ -88,7 +89,9 @@ shown-front word output₀ output is =
 
 -- a signature has n·m numbers
 pub length-signature : {M : Map} → Accepted M → length (signature M) ≡ M .dim * M .darts
-length-signature {M} a = ap length (sym (bestAfter-signature a)) ∙ length-bestAfter a (M .darts) (omega arith)
+length-signature {M} a =
+    let one = signature-one M (a .bounds .darts-least) in
+    ap length (sym (one .2)) ∙ length-word a (one .0) (one .1)
 
 module _ (g : Given) (out : List ℕ) where
   -- the verdict on the table and the output

@@ -8,7 +8,7 @@
 -- Assumes nothing.
 use Prim.Native.Nat.{ℕ, suc, _+_, _≤_, _<_}
 use mathlib.Core.Path.{_≡_, refl, sym, ap, _∙_}
-use mathlib.Core.Bool.{Bool, true, false, cond, not, _&&_}
+use mathlib.Core.Bool.{Bool, true, false, cond}
 use mathlib.Core.List.{List, [], _∷_, _++_}
 use native.Mathlib.Omega.{arith}
 use native.Mathlib.Numerals.{add-one}
@@ -72,7 +72,7 @@ leads firm Same x y r on is = at (tested (ltb x y)) (tested (ltb y x))
     at (fails a) (fails b) = keeps refl (omega (arith, ltb-false x y a, ltb-false y x b)) (simp (a, b) at is)
 
 -- the first numbers written over themselves change nothing
-over-take : (k : ℕ) (held : List ℕ) → k ≤ length held → over (take k held) held ≡ held
+pub over-take : (k : ℕ) (held : List ℕ) → k ≤ length held → over (take k held) held ≡ held
 unfolding over
 over-take k held fits = rw (length-take-le k held fits) (take-append-drop k held)
 

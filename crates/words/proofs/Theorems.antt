@@ -1,11 +1,5 @@
 -- The theorems of `specs/Theorems.antt`; `Meaning` has the lemmas behind them.
 -- Assumes nothing.
-use Prim.Native.Nat.{ℕ}
-use mathlib.Core.Path.{_≡_}
-use Rattle.maps.specs.Map.{Map, IsDart}
-use Rattle.maps.specs.Accepted.{Accepted}
-use Rattle.maps.specs.Matching.{Matched}
-use Rattle.words.specs.Words.{word, signature}
 use Rattle.words.specs.Theorems.{LabelsMatch, WordsCarried, WordsMatch, Theorem1, Theorem2, Definition9, SignatureTells, SignatureRead, StartLeast, SignatureShows}
 use Rattle.words.proofs.Carried.{word-carried}
 use Rattle.words.proofs.Labels.{SameWord}

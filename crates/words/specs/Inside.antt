@@ -4,16 +4,24 @@
 --     sideAfter, leavesAt         the same, one number further, and whether the start is then left
 --     Met                         what meeting a dart leaves, and its label
 --     Weighs, Weighed             a number may be judged, and what judging it leaves in the array of the word held
---     Ready                       a start may be tried
+--     front M d rows              the first rows of the word from d
+--     Ready                       a start may be tried, as far as these rows
+--     Outcome                     how a start's rows come out against those held, and what is held then
 --     Raced, Tried                what running a start leaves, before and after its labels are forgotten
---     startedAt, countedAt        the start and the count kept, by how the last start came out
+--     startedAt                   the start kept, by how the last start came out
+--     Settles, Settled            the lead and the trees kept, by how it came out
+--     fewRows m                   how many rows of the best word are spelt out at first
+--     Known                       of a word the first rows are held
+--     Spells, SpeltOut            it may be spelt out, and is
 --     Starting, Signs             the signature's run may start, and has come to its end
 --     Copies, Copied              numbers may be copied to an output, and are
 --     Seeks, Sought               all starts may be tried against a word held, and the least that yields it is found
+--     Leads                       all starts may be tried against the word that start 1 yields
+--     Holding                     an accepted table may be held to its own signature
 --     HeldAs                      an array holds a table's numbers
 --     Images, Imaged              the images of a matching may be written, and are
 -- Assumes nothing.
-use Prim.Native.Nat.{ℕ, _+_, _*_, _≤_, _<_}
+use Prim.Native.Nat.{ℕ, _*_, _≤_, _<_}
 use mathlib.Core.Path.{_≡_}
 use mathlib.Core.Bool.{Bool, true, false, cond, not, _&&_}
 use mathlib.Core.List.{List, _++_, map}
@@ -28,6 +36,7 @@ use Rattle.labels.specs.Queue.{labelIn, visit, labelling}
 use Rattle.labels.specs.Inside.{DartsOnce, Holds}
 use Rattle.words.specs.Words.{word, same, less, lesser, signature, yields, start, symmetries}
 use Rattle.words.specs.Sign.{over}
+use Rattle.words.specs.Forest.{joinedAll, JoinsAll}
 use Rattle.words.specs.declared.engine.Side.{Side}
 use Rattle.words.specs.declared.engine.Side.the-variants.{Less, Same, Greater}
 use Rattle.words.specs.declared.engine.Labelling.{Labelling}
@@ -76,34 +85,39 @@ pub record Weighed (before after : List ℕ) (p x : ℕ) (side : Side) (firm : B
   pub side-after : r ≡ sideAfter side x (getD before p 0)
   pub written : after ≡ cond (isLess r && not firm) (set before p x) before
 
--- a start may be tried: no dart has a label
-pub record Ready (g : Given) (back labels queue held : List ℕ) (d : ℕ) : Type 0 where
+-- the first rows of the word from d
+unfoldable pub front : Map → ℕ → ℕ → List ℕ
+front M d rows = take (rows * M .dim) (word M d)
+
+-- so many rows of a start may be tried: no dart has a label
+pub record Ready (g : Given) (back labels queue held : List ℕ) (d rows : ℕ) : Type 0 where
   pub shaped : Shaped g
   pub taken : Accepted (mapOf g)
   pub backs : back ≡ backsOf (mapOf g)
   pub dart : IsDart (mapOf g) d
+  pub some-rows : rows ≤ g .m
   pub blank : labels ≡ replicate 1020 0
   pub long-queue : length queue ≡ 1020
   pub long-word : length held ≡ 1020
 
--- how the start d comes out against the first n·m numbers of `held`, which then hold the lesser word, unless they are firm
-pub record Outcome (g : Given) (d : ℕ) (firm : Bool) (held held′ : List ℕ) (side : Side) : Type 0 where
-  pub outcome : side ≡ sideOf (word (mapOf g) d) (take (g .n * g .m) held)
-  pub best : held′ ≡ cond firm held (over (lesser (take (g .n * g .m) held) (word (mapOf g) d)) held)
+-- how the first rows of the start d come out against as many of `held`, which then hold the lesser, unless they are firm
+pub record Outcome (g : Given) (d rows : ℕ) (firm : Bool) (held held′ : List ℕ) (side : Side) : Type 0 where
+  pub outcome : side ≡ sideOf (front (mapOf g) d rows) (take (rows * g .n) held)
+  pub best : held′ ≡ cond firm held (over (lesser (take (rows * g .n) held) (front (mapOf g) d rows)) held)
 
--- the start d has run: the arrays hold the queue of what was labelled, all of it where the start is not left
-pub record Raced (g : Given) (d : ℕ) (firm : Bool) (held labels′ queue′ held′ : List ℕ) (r : Course) : Type 0 where
-  pub came : Outcome g d firm held held′ (r .side)
+-- the start d has run: the arrays hold the queue of what was labelled, all of it where all rows were judged
+pub record Raced (g : Given) (d rows : ℕ) (firm : Bool) (held labels′ queue′ held′ : List ℕ) (r : Course) : Type 0 where
+  pub came : Outcome g d rows firm held held′ (r .side)
   pub good : DartsOnce (mapOf g) (take (r .given) queue′)
   pub holds : Holds labels′ queue′ (r .given) (take (r .given) queue′)
-  pub whole : leavesAt firm (r .side) ≡ false → take (r .given) queue′ ≡ labelling (mapOf g) d
+  pub whole : leavesAt firm (r .side) ≡ false → rows ≡ g .m → take (r .given) queue′ ≡ labelling (mapOf g) d
 
 -- and its labels are forgotten
-pub record Tried (g : Given) (d : ℕ) (firm : Bool) (held labels′ queue′ held′ : List ℕ) (side : Side) : Type 0 where
-  pub came : Outcome g d firm held held′ side
+pub record Tried (g : Given) (d rows : ℕ) (firm : Bool) (held labels′ queue′ held′ : List ℕ) (side : Side) : Type 0 where
+  pub came : Outcome g d rows firm held held′ side
   pub blank : labels′ ≡ replicate 1020 0
   pub long-queue : length queue′ ≡ 1020
-  pub whole : leavesAt firm side ≡ false → take (g .m) queue′ ≡ labelling (mapOf g) d
+  pub whole : leavesAt firm side ≡ false → rows ≡ g .m → take (g .m) queue′ ≡ labelling (mapOf g) d
 
 -- the start kept: a lesser word starts anew
 unfoldable pub startedAt : Side → ℕ → ℕ → ℕ
@@ -111,11 +125,40 @@ startedAt Less d kept = d
 startedAt Same d kept = kept
 startedAt Greater d kept = kept
 
--- how many starts have yielded the best word
-unfoldable pub countedAt : Side → ℕ → ℕ
-countedAt Less kept = 1
-countedAt Same kept = kept + 1
-countedAt Greater kept = kept
+-- a start that has come out may be settled: where it is tied, its queue is joined with the lead
+pub record Settles (side : Side) (m : ℕ) (queue lead up : List ℕ) : Type 0 where
+  pub few : m ≤ 1020
+  pub long-queue : length queue ≡ 1020
+  pub long-lead : length lead ≡ 1020
+  pub joins : isSame side ≡ true → JoinsAll up queue lead m
+
+-- the start of a lesser word leads, and one that is tied joins the trees of what has one label
+pub record Settled (side : Side) (m d kept : ℕ) (queue lead up lead′ up′ : List ℕ) (r : ℕ) : Type 0 where
+  pub started : r ≡ startedAt side d kept
+  pub leads : lead′ ≡ cond (isLess side) (over (take m queue) lead) lead
+  pub trees : up′ ≡ cond (isSame side) (joinedAll m queue lead up) up
+
+-- how many rows of the best word are spelt out at first
+unfoldable pub fewRows : ℕ → ℕ
+fewRows m = cond (ltb m 16) m 16
+
+-- of the word b the first rows are held, and where they are not all, a number above all labels stands behind them
+pub record Known (M : Map) (rows : ℕ) (b held : List ℕ) : Type 0 where
+  pub spelt : take (rows * M .dim) held ≡ take (rows * M .dim) b
+  pub unknown : rows < M .darts → getD held (rows * M .dim) 0 ≡ 65535
+
+-- the word of the start s may be spelt out, of which so many rows are known
+pub record Spells (g : Given) (back labels queue held : List ℕ) (s rows : ℕ) : Type 0 where
+  pub ready : Ready g back labels queue held s rows
+  pub partly : Known (mapOf g) rows (word (mapOf g) s) held
+
+-- it is whole, and where it was not, the queue is its start's
+pub record SpeltOut (g : Given) (s rows : ℕ) (labels′ queue′ held′ : List ℕ) : Type 0 where
+  pub blank : labels′ ≡ replicate 1020 0
+  pub long-queue : length queue′ ≡ 1020
+  pub long-word : length held′ ≡ 1020
+  pub whole-word : take (g .n * g .m) held′ ≡ word (mapOf g) s
+  pub order : rows < g .m → take (g .m) queue′ ≡ labelling (mapOf g) s
 
 -- all starts of an accepted map may be tried; above all labels stands what is held
 pub record Starting (g : Given) (back labels held : List ℕ) : Type 0 where
@@ -150,6 +193,13 @@ pub record Seeks (g : Given) (back labels queue held : List ℕ) : Type 0 where
   pub long-queue : length queue ≡ 1020
   pub long-word : length held ≡ 1020
 
+-- the word held is start 1's, and the lead is its queue
+pub record Leads (g : Given) (back labels queue lead held : List ℕ) : Type 0 where
+  pub seeks : Seeks g back labels queue held
+  pub long-lead : length lead ≡ 1020
+  pub order : take (g .m) lead ≡ labelling (mapOf g) 1
+  pub first : word (mapOf g) 1 ≡ take (g .n * g .m) held
+
 -- the least start that yields the word held, or 0, and the queue of its labelling
 pub record Sought (g : Given) (held : List ℕ) (r : ℕ) (queue′ : List ℕ) : Type 0 where
   pub found : r ≡ least (g .m) (yields (mapOf g) (take (g .n * g .m) held))
@@ -168,6 +218,13 @@ pub record Images (first second output : List ℕ) (m : ℕ) : Type 0 where
 
 pub record Imaged (first second output : List ℕ) (m : ℕ) (output′ : List ℕ) : Type 0 where
   pub written : output′ ≡ over (map (λ d. nth (take m second) (labelIn (take m first) d)) (upTo m)) output
+
+-- a table that is accepted may be held to its own signature
+pub record Holding (g : Given) (back labels : List ℕ) : Type 0 where
+  pub shaped : Shaped g
+  pub taken : Accepted (mapOf g)
+  pub backs : back ≡ backsOf (mapOf g)
+  pub blank : labels ≡ replicate 1020 0
 
 -- the first numbers of an array are those of the table
 pub record HeldAs (table held : List ℕ) : Type 0 where

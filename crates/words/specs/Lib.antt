@@ -5,4 +5,6 @@ pub mod Theorems
 pub mod Match
 pub mod MatchTheorems
 pub mod Own
+pub mod Forest
+pub mod FirstRow
 pub mod Inside

@@ -3,7 +3,7 @@
 -- Assumes nothing.
 use mathlib.Core.Bool.{cond}
 use Rattle.maps.specs.Given.{Given, mapOf}
-use Rattle.maps.specs.Verdict.{Verdict, accepts}
+use Rattle.maps.specs.Verdict.{accepts}
 use Rattle.labels.specs.Judging.{checkAnswer}
 use Rattle.words.specs.Words.{same, signature}
 use Rattle.words.specs.declared.own_signature.Own.{Own}

@@ -13,7 +13,7 @@ use mathlib.Core.List.{List, _++_}
 use lib.Dec.{eqb}
 use lib.ListN.{length, drop}
 use Rattle.maps.specs.Given.{Given, mapOf}
-use Rattle.maps.specs.Verdict.{Verdict, accepts}
+use Rattle.maps.specs.Verdict.{accepts}
 use Rattle.maps.specs.declared.Output.the-variants as output
 use Rattle.labels.specs.Judging.{tableAnswer}
 use Rattle.words.specs.Words.{signature, start, symmetries}

@@ -4,7 +4,7 @@ ghost use Prim.Native.Nat.{_≤_, _<_};
 ghost use lib.ListN.{take, replicate};
 ghost use Rattle.maps.specs.Given.{lent};
 ghost use Rattle.labels.specs.Inside.{Meets, Forgets};
-ghost use Rattle.words.specs.Inside.{Met, Weighs, Weighed, leavesAt, Ready, Raced, Tried};
+ghost use Rattle.words.specs.Inside.{isLess, isSame, Met, Weighs, Weighed, leavesAt, Ready, Raced, Tried};
 
 // How a start's word comes out against the word held.
 pub(crate) enum Side {
@@ -25,7 +25,7 @@ struct Course {
     given: usize,
 }
 
-fn wide(x: u16) -> usize
+pub(crate) fn wide(x: u16) -> usize
     ensures { λ r. ⌜ r ≡ x ⌝ }
 {
     x as usize
@@ -51,6 +51,28 @@ impl Labelling {
             given: given + 1,
             label: given + 1,
         }
+    }
+}
+
+// The start's word is less than the word held.
+pub(crate) fn below(side: Side) -> bool
+    ensures { λ r. ⌜ r ≡ isLess side ⌝ }
+{
+    match side {
+        Side::Less => true,
+        Side::Same => false,
+        Side::Greater => false,
+    }
+}
+
+// The start's word is the word held.
+pub(crate) fn alike(side: Side) -> bool
+    ensures { λ r. ⌜ r ≡ isSame side ⌝ }
+{
+    match side {
+        Side::Less => false,
+        Side::Same => true,
+        Side::Greater => false,
     }
 }
 
@@ -100,7 +122,8 @@ fn leaves(side: Side, firm: bool) -> bool
     }
 }
 
-// The labelling from d, and its word judged number by number against the word held, until a number decides or all are judged.
+// The labelling from d, and the first rows of its word judged number by number against the word held, until a number decides or
+// all are judged.
 fn race(
     n: usize,
     m: usize,
@@ -110,10 +133,11 @@ fn race(
     queue: &mut [u16; 1020],
     word: &mut [u16; 1020],
     d: usize,
+    rows: usize,
     firm: bool,
 ) -> Course
-    requires { ⌜ Ready (lent n m (now table)) (now back) (now labels) (now queue) (now word) d ⌝ }
-    ensures { λ r. ⌜ Raced (lent n m (now (table .entry))) d firm (now (word .entry)) (now (labels .exit)) (now (queue .exit)) (now (word .exit)) r ⌝ }
+    requires { ⌜ Ready (lent n m (now table)) (now back) (now labels) (now queue) (now word) d rows ⌝ }
+    ensures { λ r. ⌜ Raced (lent n m (now (table .entry))) d rows firm (now (word .entry)) (now (labels .exit)) (now (queue .exit)) (now (word .exit)) r ⌝ }
 {
     labels[d - 1] = 1;
     queue[0] = d as u16;
@@ -121,7 +145,7 @@ fn race(
     let mut side = Side::Same;
     let mut p = 0;
     let mut k = 0;
-    'labels: while k < m {
+    'labels: while k < rows {
         let served = wide(queue[k]);
         labelling = labelling.meet(labels, queue, wide(back[served - 1]));
         let row = (served - 1) * n;
@@ -155,7 +179,8 @@ fn forget(labels: &mut [u16; 1020], queue: &[u16; 1020], given: usize)
     }
 }
 
-// A start is tried against the word held. Where it is not left, the queue then has its darts in the order labelled.
+// So many rows of a start are tried against the word held. Where they are all and it is not left, the queue then has its darts in
+// the order labelled.
 pub(crate) fn try_start(
     n: usize,
     m: usize,
@@ -165,12 +190,13 @@ pub(crate) fn try_start(
     queue: &mut [u16; 1020],
     word: &mut [u16; 1020],
     d: usize,
+    rows: usize,
     firm: bool,
 ) -> Side
-    requires { ⌜ Ready (lent n m (now table)) (now back) (now labels) (now queue) (now word) d ⌝ }
-    ensures { λ r. ⌜ Tried (lent n m (now (table .entry))) d firm (now (word .entry)) (now (labels .exit)) (now (queue .exit)) (now (word .exit)) r ⌝ }
+    requires { ⌜ Ready (lent n m (now table)) (now back) (now labels) (now queue) (now word) d rows ⌝ }
+    ensures { λ r. ⌜ Tried (lent n m (now (table .entry))) d rows firm (now (word .entry)) (now (labels .exit)) (now (queue .exit)) (now (word .exit)) r ⌝ }
 {
-    let course = race(n, m, table, back, labels, queue, word, d, firm);
+    let course = race(n, m, table, back, labels, queue, word, d, rows, firm);
     let given = course.given;
     forget(labels, queue, given);
     course.side

@@ -1,12 +1,19 @@
 // The signature: the least word over all starts, with its start and symmetries.
 ghost use mathlib.Core.Path.{_≡_};
-ghost use Prim.Native.Nat.{_≤_};
+ghost use mathlib.Core.Bool.{_&&_};
+ghost use lib.Dec.{ltb};
 ghost use lib.ListN.{replicate};
 ghost use Rattle.maps.specs.Given.{lent};
 ghost use Rattle.words.specs.Sign.{SignsAs};
-ghost use Rattle.words.specs.Inside.{startedAt, countedAt, Starting, Signs, Copies, Copied};
+ghost use Rattle.words.specs.Inside.{isSame, fewRows, Settles, Settled, Spells, SpeltOut, Starting, Signs, Copies, Copied};
 use crate::engine::Side;
+use crate::engine::alike;
 use crate::engine::try_start;
+use crate::engine::wide;
+use crate::first_row::least_rank;
+use crate::first_row::rank;
+use crate::orbits::join_all;
+use crate::orbits::tree_size;
 use maps::Judged;
 use maps::Output;
 
@@ -17,26 +24,71 @@ pub enum Signed {
     Refused { number: u32, place: usize },
 }
 
-// The least start so far: a lesser word starts anew.
-fn started(side: Side, d: usize, start: usize) -> usize
-    ensures { λ r. ⌜ r ≡ startedAt side d start ⌝ }
+// A start has come out: a lesser word leads from now on, and at a tie the darts that have one label have one word. The least
+// start of the best word goes back.
+fn settle(
+    side: Side,
+    m: usize,
+    d: usize,
+    kept: usize,
+    queue: &[u16; 1020],
+    lead: &mut [u16; 1020],
+    up: &mut [u16; 1020],
+) -> usize
+    requires { ⌜ Settles side m (now queue) (now lead) (now up) ⌝ }
+    ensures { λ r. ⌜ Settled side m d kept (now (queue .entry)) (now (lead .entry)) (now (up .entry)) (now (lead .exit)) (now (up .exit)) r ⌝ }
 {
     match side {
-        Side::Less => d,
-        Side::Same => start,
-        Side::Greater => start,
+        Side::Less => {
+            copy(queue, lead, m);
+            d
+        }
+        Side::Same => {
+            join_all(up, queue, lead, m);
+            kept
+        }
+        Side::Greater => kept,
     }
 }
 
-// How many starts have yielded the best word so far.
-fn counted(side: Side, symmetries: usize) -> usize
-    requires { ⌜ symmetries ≤ 1020 ⌝ }
-    ensures { λ r. ⌜ r ≡ countedAt side symmetries ⌝ }
+// A start that is less in its first rows is often beaten soon: so many rows of the best word are spelt out at first.
+fn few_rows(m: usize) -> usize
+    ensures { λ r. ⌜ r ≡ fewRows m ⌝ }
 {
-    match side {
-        Side::Less => 1,
-        Side::Same => symmetries + 1,
-        Side::Greater => symmetries,
+    if m < 16 {
+        return m;
+    }
+    16
+}
+
+// A start agrees with the best word in all rows that are known, and some are not.
+fn agrees(side: Side, rows: usize, m: usize) -> bool
+    ensures { λ r. ⌜ r ≡ (isSame side && ltb rows m) ⌝ }
+{
+    if alike(side) {
+        return rows < m;
+    }
+    false
+}
+
+// The best word is spelt out where some of its rows are not known: behind them stand numbers above all labels, so that its own
+// start is less.
+fn spell_out(
+    n: usize,
+    m: usize,
+    table: &[u16],
+    back: &[u16; 1020],
+    labels: &mut [u16; 1020],
+    queue: &mut [u16; 1020],
+    word: &mut [u16; 1020],
+    start: usize,
+    rows: usize,
+)
+    requires { ⌜ Spells (lent n m (now table)) (now back) (now labels) (now queue) (now word) start rows ⌝ }
+    ensures { λ _. ⌜ SpeltOut (lent n m (now (table .entry))) start rows (now (labels .exit)) (now (queue .exit)) (now (word .exit)) ⌝ }
+{
+    if rows < m {
+        try_start(n, m, table, back, labels, queue, word, start, m, false);
     }
 }
 
@@ -59,7 +111,8 @@ impl Signing {
         }
     }
 
-    // All starts, one after the other.
+    // All starts, one after the other, but for those that a lesser dart has decided, which has their word, and those whose first
+    // row is not the least.
     fn run(
         mut self,
         n: usize,
@@ -71,11 +124,23 @@ impl Signing {
         requires { ⌜ Starting (lent n m (now table)) (now back) (now labels) (self .word) ⌝ }
         ensures { λ r. ⌜ Signs (lent n m (now (table .entry))) r ⌝ }
     {
+        let least = least_rank(n, m, table, back);
         let mut queue = [0u16; 1020];
+        let mut lead = [0u16; 1020];
+        let mut up = [0u16; 1020];
+        let mut rows = few_rows(m);
         let mut start = 0;
-        let mut symmetries = 0;
-        let mut d = 1;
-        while d <= m {
+        let mut d = 0;
+        while d < m {
+            let next = d + 1;
+            if wide(up[d]) != 0 {
+                d = next;
+                continue;
+            }
+            if rank(n, m, table, back, next) != least {
+                d = next;
+                continue;
+            }
             let side = try_start(
                 n,
                 m,
@@ -84,15 +149,42 @@ impl Signing {
                 labels,
                 &mut queue,
                 &mut self.word,
-                d,
+                next,
+                rows,
                 false,
             );
-            start = started(side, d, start);
-            symmetries = counted(side, symmetries);
-            d += 1;
+            // The start agrees with all that is known: it is tried again when the rest is.
+            if agrees(side, rows, m) {
+                spell_out(
+                    n,
+                    m,
+                    table,
+                    back,
+                    labels,
+                    &mut lead,
+                    &mut self.word,
+                    start,
+                    rows,
+                );
+                rows = m;
+                continue;
+            }
+            start = settle(side, m, next, start, &queue, &mut lead, &mut up);
+            d = next;
         }
+        spell_out(
+            n,
+            m,
+            table,
+            back,
+            labels,
+            &mut queue,
+            &mut self.word,
+            start,
+            rows,
+        );
         self.start = start;
-        self.symmetries = symmetries;
+        self.symmetries = tree_size(&up, m, start);
         self
     }
 }

@@ -1,7 +1,9 @@
 // Words, the least word, and the calls that run starts: each in its own module, above the engine that runs one.
 mod engine;
+mod first_row;
 mod least_word;
 mod matching;
+mod orbits;
 mod own_signature;
 
 pub use least_word::Signed;

@@ -1,28 +1,12 @@
 // The match of two maps, and the matching that it shows: dart 1 goes to the least dart of the second map that any takes it to.
-ghost use mathlib.Core.Path.{_≡_};
 ghost use Rattle.maps.specs.Given.{lent};
 ghost use Rattle.words.specs.Match.{MatchesAs};
-ghost use Rattle.words.specs.Inside.{isSame, Seeks, Sought, Images, Imaged};
-use crate::engine::Side;
+ghost use Rattle.words.specs.Inside.{Seeks, Sought, Images, Imaged};
+use crate::engine::alike;
 use crate::engine::try_start;
+use crate::engine::wide;
 use maps::Judged;
 use maps::Output;
-
-fn wide(x: u16) -> usize
-    ensures { λ r. ⌜ r ≡ x ⌝ }
-{
-    x as usize
-}
-
-fn alike(side: Side) -> bool
-    ensures { λ r. ⌜ r ≡ isSame side ⌝ }
-{
-    match side {
-        Side::Less => false,
-        Side::Same => true,
-        Side::Greater => false,
-    }
-}
 
 // The least start whose word is the one held, or 0. The queue then has its darts in the order labelled.
 fn first_alike(
@@ -39,7 +23,7 @@ fn first_alike(
 {
     let mut d = 1;
     while d <= m {
-        let side = try_start(n, m, table, back, labels, queue, word, d, true);
+        let side = try_start(n, m, table, back, labels, queue, word, d, m, true);
         if alike(side) {
             return d;
         }
@@ -97,6 +81,7 @@ pub fn match_maps(
         &mut queue,
         &mut word,
         1,
+        m,
         false,
     );
     let second = labels::judge(n2, m2, table2, Output::Nothing, &mut back, &mut labels);

@@ -1,14 +1,17 @@
 // "Equal to its own signature": each start is compared with the table itself, and left at the first number that differs.
 ghost use mathlib.Core.Path.{_≡_};
-ghost use mathlib.Core.Bool.{_||_};
 ghost use Prim.Native.Nat.{_≤_, _*_};
 ghost use lib.ListN.{length, take};
 ghost use Rattle.maps.specs.Given.{lent, mapOf};
 ghost use Rattle.words.specs.Words.{same, signature};
 ghost use Rattle.words.specs.Own.{ownAnswer};
-ghost use Rattle.words.specs.Inside.{isLess, isSame, Seeks, HeldAs};
-use crate::engine::Side;
+ghost use Rattle.words.specs.Inside.{Leads, HeldAs, Holding};
+use crate::engine::alike;
+use crate::engine::below;
 use crate::engine::try_start;
+use crate::engine::wide;
+use crate::first_row::rank;
+use crate::orbits::join_all;
 use maps::Judged;
 use maps::Output;
 
@@ -17,27 +20,6 @@ pub enum Own {
     Signature,
     Other,
     Refused { number: u32, place: usize },
-}
-
-fn below(side: Side) -> bool
-    ensures { λ r. ⌜ r ≡ isLess side ⌝ }
-{
-    match side {
-        Side::Less => true,
-        Side::Same => false,
-        Side::Greater => false,
-    }
-}
-
-// Some start has yielded the word held.
-fn yielded(side: Side, before: bool) -> bool
-    ensures { λ r. ⌜ r ≡ (isSame side || before) ⌝ }
-{
-    match side {
-        Side::Less => before,
-        Side::Same => true,
-        Side::Greater => before,
-    }
 }
 
 // The numbers of a table, held as a word.
@@ -52,7 +34,8 @@ fn hold(table: &[u16], word: &mut [u16; 1020])
     }
 }
 
-// The word held is the least: no start is less, and one yields it.
+// The word held, which start 1 yields, is the least: no start is less. A start is passed over that a lesser dart has decided, or
+// that its first row shows to be greater.
 fn is_least(
     n: usize,
     m: usize,
@@ -60,22 +43,48 @@ fn is_least(
     back: &[u16; 1020],
     labels: &mut [u16; 1020],
     queue: &mut [u16; 1020],
+    lead: &[u16; 1020],
     word: &mut [u16; 1020],
 ) -> bool
-    requires { ⌜ Seeks (lent n m (now table)) (now back) (now labels) (now queue) (now word) ⌝ }
+    requires { ⌜ Leads (lent n m (now table)) (now back) (now labels) (now queue) (now lead) (now word) ⌝ }
     ensures { λ r. ⌜ r ≡ same (take (n * m) (now (word .entry))) (signature (mapOf (lent n m (now (table .entry))))) ⌝ }
 {
-    let mut some = false;
+    let first = rank(n, m, table, back, 1);
+    let mut up = [0u16; 1020];
     let mut d = 1;
-    while d <= m {
-        let side = try_start(n, m, table, back, labels, queue, word, d, true);
+    while d < m {
+        d += 1;
+        if wide(up[d - 1]) != 0 {
+            continue;
+        }
+        if first < rank(n, m, table, back, d) {
+            continue;
+        }
+        let side = try_start(n, m, table, back, labels, queue, word, d, m, true);
         if below(side) {
             return false;
         }
-        some = yielded(side, some);
-        d += 1;
+        if alike(side) {
+            join_all(&mut up, queue, lead, m);
+        }
     }
-    some
+    true
+}
+
+// Whether an accepted table is its own signature. A signature is what start 1 yields, so start 1 leads.
+fn is_own(n: usize, m: usize, table: &[u16], back: &[u16; 1020], labels: &mut [u16; 1020]) -> bool
+    requires { ⌜ Holding (lent n m (now table)) (now back) (now labels) ⌝ }
+    ensures { λ r. ⌜ r ≡ same (now (table .entry)) (signature (mapOf (lent n m (now (table .entry))))) ⌝ }
+{
+    let mut word = [0u16; 1020];
+    hold(table, &mut word);
+    let mut lead = [0u16; 1020];
+    let first = try_start(n, m, table, back, labels, &mut lead, &mut word, 1, m, true);
+    if alike(first) {
+        let mut queue = [0u16; 1020];
+        return is_least(n, m, table, back, labels, &mut queue, &lead, &mut word);
+    }
+    false
 }
 
 // Whether a dart table is its own signature, for whatever a caller hands in.
@@ -88,10 +97,7 @@ pub fn own_word(n: usize, m: usize, table: &[u16]) -> Own
     if let Judged::Refused { number, place } = judged {
         return Own::Refused { number, place };
     }
-    let mut word = [0u16; 1020];
-    hold(table, &mut word);
-    let mut queue = [0u16; 1020];
-    if is_least(n, m, table, &back, &mut labels, &mut queue, &mut word) {
+    if is_own(n, m, table, &back, &mut labels) {
         return Own::Signature;
     }
     Own::Other

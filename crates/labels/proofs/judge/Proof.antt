@@ -3,7 +3,7 @@ use mathlib.Core.Path.{_≡_, refl, sym, _∙_}
 use mathlib.Core.Bool.{true}
 use native.Mathlib.Omega.{arith}
 use borrow.Author.Needs.{needs}
-use Rattle.maps.specs.Given.{lent, mapOf}
+use Rattle.maps.specs.Given.{lent}
 use Rattle.maps.specs.Verdict.{accepts}
 use Rattle.maps.specs.Rules.{judgeSewing}
 use Rattle.maps.proofs.Lines.{sewing-clear}

@@ -1,10 +1,7 @@
 -- `lister::short_line` meets its contract: a word and a number, or nothing. Assumes nothing.
-use Prim.Native.Nat.{ℕ}
-use mathlib.Core.Path.{_≡_, refl}
-use mathlib.Core.Bool.{true, false}
+use mathlib.Core.Path.{refl}
 use borrow.Author.Needs.{needs}
 use borrow.Author.Tests.{eq-eqb, ne-eqb}
-use lib.Dec.{eqb}
 use Rattle.lister.specs.Listing.{spaced, shortWord, shortEnd}
 use Rattle.lister.proofs.Printing.{put-join, printed}
 use Rattle.lister.proofs.short_line.Statement.{statement}

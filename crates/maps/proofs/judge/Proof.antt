@@ -1,14 +1,13 @@
 -- `maps::judge` meets its contract: numbers 1 to 4 by their tests, and then the entries. Assumes nothing.
 use Prim.Native.Nat.{ℕ, _≤_}
-use mathlib.Core.Path.{_≡_, sym, ap, _∙_}
-use mathlib.Core.Bool.{cond}
+use mathlib.Core.Path.{_≡_, sym, _∙_}
 use mathlib.Core.List.{List}
 use borrow.Author.Needs.{needs}
 use native.Mathlib.Omega.{arith}
 use native.Mathlib.Nat.{mul-le-mul}
 use lib.ListN.{replicate}
 use Rattle.maps.specs.Given.{Given, lent}
-use Rattle.maps.specs.Verdict.{Verdict, accepted, refused}
+use Rattle.maps.specs.Verdict.{accepted, refused}
 use Rattle.maps.specs.Rules.{judgeShape, judgeSewing}
 use Rattle.maps.specs.Answer.{JudgedAs}
 use Rattle.maps.specs.declared.Output.{Output}

@@ -1,5 +1,4 @@
 -- `maps::judge_entries` meets its contract: each rule's wrong entry is the answer, or the next rule is judged. Assumes nothing.
-use Prim.Native.Nat.{ℕ}
 use mathlib.Core.Path.{_≡_, refl, sym, _∙_}
 use mathlib.Core.List.{[], _∷_}
 use borrow.Author.Needs.{needs}
@@ -8,7 +7,7 @@ use Rattle.maps.specs.Map.{Map}
 use Rattle.maps.specs.Given.{lent, mapOf}
 use Rattle.maps.specs.Rules.{overRule, clashRule, reverseRule, composeRule, rules, wrongEntry, judgeEntries}
 use Rattle.maps.specs.Inside.{ruleOf}
-use Rattle.maps.proofs.Rules.{over-none, Pass, done, past, rules-found, rules-none}
+use Rattle.maps.proofs.Rules.{over-none, done, past, rules-found, rules-none}
 use Rattle.maps.proofs.Answer.{as-refused, as-passed}
 use Rattle.maps.proofs.judge_entries.Statement.{statement}
 use Rattle.maps.proofs.judge_entries.Tie as tie

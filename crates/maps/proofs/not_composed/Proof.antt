@@ -1,8 +1,6 @@
 -- `maps::not_composed` meets its contract: the search for a composition that fails, from i = 1 upwards. Assumes nothing.
-use Prim.Native.Nat.{ℕ, _+_, _-_, _≤_, _<_}
-use mathlib.Core.Path.{_≡_, _∙_, sym}
-use mathlib.Core.Bool.{false}
-use borrow.Author.Needs.{needs}
+use Prim.Native.Nat.{ℕ, _-_, _≤_}
+use mathlib.Core.Path.{_∙_, sym}
 use native.Mathlib.Omega.{arith}
 use Rattle.maps.specs.Map.{Map}
 use Rattle.maps.specs.Given.{lent, mapOf}

@@ -1,19 +1,17 @@
 -- `maps::sew_back` meets its contract: with each dart passed, β0 is known of what β1 takes it to, and rule 6 holds so far.
 -- Assumes nothing.
 use Prim.Native.Nat.{ℕ, suc, _+_, _-_, _*_, _≤_, _<_}
-use mathlib.Core.Path.{_≡_, _∙_, ap, sym, subst}
-use mathlib.Core.Bool.{true, false}
+use mathlib.Core.Path.{_≡_, _∙_, ap, sym}
 use mathlib.Core.List.{List}
 use mathlib.Core.Logic.{⊎-elim}
 use native.Mathlib.Nat.{pos-of-ne-zero}
 use native.Mathlib.Omega.{arith}
-use borrow.Author.Tests.{lt-ltb, le-ltb}
+use borrow.Author.Tests.{lt-ltb}
 use lib.Dec.{ltb}
 use lib.ListN.{getD, set}
 use Rattle.maps.specs.Map.{Map, IsDart, sew}
 use Rattle.maps.specs.Given.{lent, placeOf, mapOf}
-use Rattle.maps.specs.Rules.{givenBefore, wrongEntry}
-use Rattle.maps.specs.Inside.{BackAs}
+use Rattle.maps.specs.Rules.{givenBefore}
 use Rattle.maps.proofs.Least.{Passed, passed-start, passed-turn}
 use Rattle.maps.proofs.Accepted.{darts-most}
 use Rattle.maps.proofs.Given.{in-table}

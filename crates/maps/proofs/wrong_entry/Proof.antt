@@ -1,12 +1,12 @@
 -- `maps::wrong_entry` meets its contract: the search for a dart that has a wrong entry, from dart 1 upwards. Assumes nothing.
-use Prim.Native.Nat.{ℕ, _+_, _-_, _*_, _≤_, _<_}
+use Prim.Native.Nat.{ℕ, _+_, _-_, _*_, _≤_}
 use mathlib.Core.Path.{_≡_, _∙_, sym}
-use mathlib.Core.Bool.{true, false}
+use mathlib.Core.Bool.{false}
 use native.Mathlib.Nat.{pos-of-ne-zero}
 use native.Mathlib.Omega.{arith}
 use Rattle.maps.specs.Map.{Map}
 use Rattle.maps.specs.Given.{lent, placeOf, mapOf}
-use Rattle.maps.specs.Rules.{Rule, wrongEntry}
+use Rattle.maps.specs.Rules.{Rule}
 use Rattle.maps.specs.Inside.{ruleOf, wrongSewing}
 use Rattle.maps.proofs.Least.{Found, Passed, passed-start, passed-turn, passed-misses, least-found, least-none, misses-some}
 use Rattle.maps.proofs.Accepted.{darts-most}

@@ -1,14 +1,13 @@
 -- `maps::wrong_sewing` meets its contract: the search for a sewing that breaks the rule, from the least that it speaks of upwards.
 -- Assumes nothing.
-use Prim.Native.Nat.{ℕ, _+_, _-_, _≤_, _<_}
-use mathlib.Core.Path.{_≡_, _∙_, sym}
-use mathlib.Core.Bool.{true, false}
+use Prim.Native.Nat.{ℕ, _+_, _-_, _≤_}
+use mathlib.Core.Path.{_∙_, sym}
 use borrow.Author.Needs.{needs}
 use native.Mathlib.Omega.{arith}
 use Rattle.maps.specs.Map.{Map}
 use Rattle.maps.specs.Given.{lent, mapOf}
 use Rattle.maps.specs.Rules.{Rule}
-use Rattle.maps.specs.Inside.{ruleOf, lowOf, wrongSewing}
+use Rattle.maps.specs.Inside.{ruleOf, wrongSewing}
 use Rattle.maps.proofs.Least.{Passed, passed-turn, passed-misses, passed-found, least-is, none-least}
 use Rattle.maps.proofs.Rules.{lowOf-low, spoken}
 use Rattle.maps.proofs.wrong_sewing.Statement.{statement}

@@ -4,7 +4,8 @@ use mathlib.Core.Path.{sym, _∙_}
 use native.Mathlib.Omega.{arith}
 use Rattle.maps.proofs.Accepted.{darts-most}
 use Rattle.matches.specs.Inside.{imagesJudged}
-use Rattle.matches.proofs.Inside.{judged-passed, judged-refused, good-images, images-long, images-bad, images-parted, images-kept}
+use Rattle.maps.proofs.Answer.{judged-passed, judged-refused}
+use Rattle.matches.proofs.Inside.{good-images, images-long, images-bad, images-parted, images-kept}
 use Rattle.matches.proofs.judge_images.Statement.{statement}
 use Rattle.matches.proofs.judge_images.Tie as tie
 

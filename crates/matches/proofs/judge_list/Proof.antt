@@ -6,10 +6,10 @@ use borrow.Author.Needs.{needs}
 use Rattle.maps.specs.Given.{Given, lent}
 use Rattle.maps.specs.Verdict.{accepts, ofSecond}
 use Rattle.maps.specs.Answer.{judgedOf}
-use Rattle.maps.proofs.Answer.{passed-accepts, refused-accepts}
+use Rattle.maps.proofs.Answer.{passed-accepts, refused-accepts, judged-refused}
 use Rattle.labels.specs.Judging.{checkAnswer}
 use Rattle.matches.specs.Inside.{imagesJudged}
-use Rattle.matches.proofs.Inside.{judged-refused, answer-first, answer-second, answer-unlike-dim, answer-unlike-darts, alike-ready, answer-alike}
+use Rattle.matches.proofs.Inside.{answer-first, answer-second, answer-unlike-dim, answer-unlike-darts, alike-ready, answer-alike}
 use Rattle.matches.proofs.judge_list.Statement.{statement}
 use Rattle.matches.proofs.judge_list.Tie as tie
 

@@ -3,9 +3,9 @@ use mathlib.Core.Path.{sym, _∙_}
 use mathlib.Core.Logic.{inl, inr}
 use borrow.Author.Needs.{needs}
 use native.Mathlib.Omega.{arith}
-use Rattle.maps.proofs.Answer.{judged-of-refused}
+use Rattle.maps.proofs.Answer.{judged-passed, judged-refused}
 use Rattle.drawer.specs.Inside.{Within}
-use Rattle.drawer.proofs.Checking.{judged-accepted, checked-over, checked-bad, checked-good}
+use Rattle.drawer.proofs.Checking.{checked-over, checked-bad, checked-good}
 use Rattle.drawer.proofs.check.check_drawer.Statement.{statement}
 use Rattle.drawer.proofs.check.check_drawer.Tie as tie
 
@@ -16,20 +16,20 @@ within : (c : tie.Else2) →
 within c = record { few = c .before .if1 .left; inside = c .if2 .left }
 
 returns : tie.Need-returns
-returns c = sym (judged-of-refused 13 0 (omega arith) (checked-over _ _ (inl (c .if1 .taken))))
+returns c = judged-refused 13 0 (omega arith) (checked-over _ _ (inl (c .if1 .taken)))
 
 returns-2 : tie.Need-returns-2
-returns-2 c = sym (judged-of-refused 13 0 (omega arith) (checked-over _ _ (inr (c .if2 .taken))))
+returns-2 c = judged-refused 13 0 (omega arith) (checked-over _ _ (inr (c .if2 .taken)))
 
 returns-3 : tie.Need-returns-3
 returns-3 c =
     let judged = c .before in
-    sym (judged-of-refused 14 _ (omega arith) (checked-bad _ _ (within (judged .before)) _ (judged .first-bad .ensures) (c .if3 .taken)))
+    judged-refused 14 _ (omega arith) (checked-bad _ _ (within (judged .before)) _ (judged .first-bad .ensures) (c .if3 .taken))
 
 returns-4 : tie.Need-returns-4
 returns-4 c =
     let judged = c .before in
-    judged-accepted (checked-good _ _ (within (judged .before)) (sym (c .if3 .left) ∙ judged .first-bad .ensures))
+    judged-passed (checked-good _ _ (within (judged .before)) (sym (c .if3 .left) ∙ judged .first-bad .ensures))
 
 pub check-drawer-spec : {M : Type 1} → statement M
 check-drawer-spec =

@@ -6,7 +6,7 @@ use mathlib.Core.List.{List}
 use borrow.Author.Needs.{needs}
 use native.Mathlib.Omega.{arith}
 use lib.Seq.{length-take-le}
-use lib.ListN.{length, length-replicate}
+use lib.ListN.{length}
 use Rattle.words.specs.declared.own_signature.Own.{Own}
 use Rattle.drawer.specs.Record.{recordSize, readRecord}
 use Rattle.drawer.specs.Answers.{readingOf}

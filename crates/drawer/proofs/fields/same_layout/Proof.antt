@@ -47,6 +47,7 @@ same-word-requires c κs =
     let pre = start (if1 c) .pre in
     record {
       few = rw (size c) (pre .second-fits .small);
+      near = omega arith;
       first-long = omega (arith, size c, pre .second-fits .small, pre .first-long);
       second-long = omega (arith, size c, pre .second-fits .small, pre .second-fits .long);
     }

@@ -1,20 +1,19 @@
 -- `drawer::file::file_layout` meets its contract: the map, then what stands against its record, which is else copied behind the last.
 -- Assumes nothing.
-use Prim.Native.Nat.{ℕ, _+_, _*_, _≤_}
+use Prim.Native.Nat.{ℕ, _+_, _≤_}
 use mathlib.Core.Path.{_≡_, refl, sym, ap, _∙_}
 use mathlib.Core.Bool.{true}
 use mathlib.Core.List.{List}
 use borrow.Author.Needs.{needs}
 use native.Mathlib.Omega.{arith}
-use lib.ListN.{length, take, drop}
 use Rattle.maps.specs.Given.{Given, lent}
-use Rattle.maps.specs.Verdict.{accepts}
+use Rattle.maps.specs.Verdict.{accepts, inOrder}
 use Rattle.maps.specs.Answer.{judgedOf}
 use Rattle.maps.proofs.Answer.{passed-accepts}
 use Rattle.labels.specs.Judging.{checkAnswer}
 use Rattle.drawer.specs.Record.{recordSize, recordBytes, filedIn}
-use Rattle.drawer.specs.Drawer.{Drawer, drawer, layoutOf}
-use Rattle.drawer.specs.Inside.{Within, Comparable, nextAnswer}
+use Rattle.drawer.specs.Drawer.{Drawer, drawer, layoutOf, judgeNext}
+use Rattle.drawer.specs.Inside.{Within, Comparable}
 use Rattle.drawer.proofs.Calls.{made-layout, made-comparable, filing-checked, filing-judged, next-within, filing-done}
 use Rattle.drawer.proofs.file.file_layout.Statement.{statement}
 use Rattle.drawer.proofs.file.file_layout.Tie as tie
@@ -61,12 +60,12 @@ comparable c = rw (filed-is c) (made-comparable _ _ (small (start (made c))) (ta
 -- what stands against it
 next-is : (c : tie.After-judge-next) →
     let s = start (made (accepted c)) in
-    c .judge-next .result ≡ judgedOf (nextAnswer (s .args .die) (layoutOf (given s)) (lent-drawer s))
+    c .judge-next .result ≡ judgedOf (inOrder (judgeNext (s .args .die) (layoutOf (given s)) (lent-drawer s)))
 next-is c =
     let a = accepted c in
     let s = start (made a) in
     c .judge-next .ensures
-    ∙ ap (λ (l : Given). judgedOf (nextAnswer (s .args .die) l (lent-drawer s)))
+    ∙ ap (λ (l : Given). judgedOf (inOrder (judgeNext (s .args .die) l (lent-drawer s))))
     (ap (λ (r : List ℕ). filedIn r .layout) (filed-is a) ∙ made-layout _ _ (small s) (takes a))
 
 -- nothing does, so there is room

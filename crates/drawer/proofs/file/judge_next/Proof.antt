@@ -7,14 +7,13 @@ use borrow.Author.Needs.{needs}
 use native.Mathlib.Omega.{arith}
 use lib.ListN.{length}
 use Rattle.maps.specs.Given.{Given}
-use Rattle.maps.specs.Verdict.{accepts}
+use Rattle.maps.specs.Verdict.{accepts, inOrder}
 use Rattle.maps.specs.Answer.{judgedOf}
 use Rattle.maps.specs.declared.Judged.the-variants.{Refused}
-use Rattle.maps.proofs.Answer.{passed-accepts, refused-accepts, judged-of-refused}
+use Rattle.maps.proofs.Answer.{passed-accepts, refused-accepts, judged-passed, judged-refused}
 use Rattle.drawer.specs.Record.{filedIn}
-use Rattle.drawer.specs.Drawer.{Drawer, drawer, drawerAnswer, recordOf, recordOfDie}
-use Rattle.drawer.specs.Inside.{Within, nextAnswer}
-use Rattle.drawer.proofs.Checking.{judged-accepted}
+use Rattle.drawer.specs.Drawer.{Drawer, drawer, drawerAnswer, recordOf, recordOfDie, judgeNext}
+use Rattle.drawer.specs.Inside.{Within}
 use Rattle.drawer.proofs.Calls.{accepted-within, next-drawer, next-no-die, next-die, next-layout, next-over, next-room}
 use Rattle.drawer.proofs.file.judge_next.Statement.{statement}
 use Rattle.drawer.proofs.file.judge_next.Tie as tie
@@ -72,28 +71,28 @@ returns c =
     answer ∙ ap judgedOf (sym (next-drawer _ _ _ (refused-accepts _ _ _ (sym (c .enum-told2 .given .1) ∙ answer))))
 
 returns-2 : tie.Need-returns-2
-returns-2 c = sym (judged-of-refused 16 0 (omega arith) (next-no-die _ _ _ (checked (c .before)) (c .if1 .taken)))
+returns-2 c = judged-refused 16 0 (omega arith) (next-no-die _ _ _ (checked (c .before)) (c .if1 .taken))
 
 returns-3 : tie.Need-returns-3
 returns-3 c =
     let d = c .before in
     let n = named d in
-    sym (judged-of-refused 16 _ (omega arith) (next-die _ _ _ (checked (fine n)) (n .if1 .left) _ (d .first-with-die .ensures) (c .if2 .taken)))
+    judged-refused 16 _ (omega arith) (next-die _ _ _ (checked (fine n)) (n .if1 .left) _ (d .first-with-die .ensures) (c .if2 .taken))
 
 returns-4 : tie.Need-returns-4
 returns-4 c =
     let l = c .before in
     let n = new-die (l .before) in
-    sym (judged-of-refused 17 _ (omega arith) (next-layout _ _ _ (checked (fine n)) (n .if1 .left) (no-die (l .before)) _ (l .first-with-layout .ensures) (c .if3 .taken)))
+    judged-refused 17 _ (omega arith) (next-layout _ _ _ (checked (fine n)) (n .if1 .left) (no-die (l .before)) _ (l .first-with-layout .ensures) (c .if3 .taken))
 
 -- the drawer has no room for one record more
 over : (c : tie.Else3) →
     let e = fine (new-die (sought c)) in
     (1024 < lent-drawer e .count + 1) ⊎ (length (lent-drawer e .bytes) < (lent-drawer e .count + 1) * 2048)
-    → Refused 18 0 ≡ judgedOf (nextAnswer (start (judged e) .args .die) (layout e) (lent-drawer e))
+    → Refused 18 0 ≡ judgedOf (inOrder (judgeNext (start (judged e) .args .die) (layout e) (lent-drawer e)))
 over c h =
     let n = new-die (sought c) in
-    sym (judged-of-refused 18 0 (omega arith) (next-over _ _ _ (checked (fine n)) (n .if1 .left) (no-die (sought c)) (no-layout c) h))
+    judged-refused 18 0 (omega arith) (next-over _ _ _ (checked (fine n)) (n .if1 .left) (no-die (sought c)) (no-layout c) h)
 
 returns-5 : tie.Need-returns-5
 returns-5 c = over (c .before) (inl (omega arith))
@@ -106,7 +105,7 @@ returns-7 c =
     let l = c .before .before in
     let n = new-die (sought l) in
     let w = within (fine n) in
-    judged-accepted (next-room _ _ _ (checked (fine n)) (n .if1 .left) (no-die (sought l)) (no-layout l) (omega (arith, w .few)) (c .if5 .left))
+    judged-passed (next-room _ _ _ (checked (fine n)) (n .if1 .left) (no-die (sought l)) (no-layout l) (omega (arith, w .few)) (c .if5 .left))
 
 pub judge-next-spec : {M : Type 1} → statement M
 judge-next-spec =

@@ -1,10 +1,8 @@
 -- `drawer::search::found` meets its contract: the part of the drawer that search names, or none. Assumes nothing.
-use Prim.Native.Nat.{ℕ}
 use mathlib.Core.Path.{_≡_, refl, sym, _∙_}
-use mathlib.Core.List.{List}
 use borrow.Author.Needs.{needs}
-use Rattle.maps.specs.Given.{Given, lent}
-use Rattle.drawer.specs.Drawer.{Drawer, drawer, recordAt, ownBytes}
+use Rattle.maps.specs.Given.{lent}
+use Rattle.drawer.specs.Drawer.{drawer, recordAt, ownBytes}
 use Rattle.drawer.specs.Inside.{HasRecord}
 use Rattle.drawer.proofs.Calls.{own-named, own-none}
 use Rattle.drawer.proofs.search.found.Statement.{statement}

@@ -5,7 +5,6 @@ use mathlib.Core.Bool.{true}
 use mathlib.Core.List.{List}
 use borrow.Author.Needs.{needs}
 use native.Mathlib.Omega.{arith}
-use lib.ListN.{length}
 use Rattle.maps.specs.Given.{Given, lent}
 use Rattle.maps.specs.Verdict.{accepts}
 use Rattle.maps.proofs.Answer.{passed-accepts}

@@ -1,18 +1,18 @@
 -- `labels::Labelling::serve` meets its contract: β0 is met, and then the entries of the dart's row, one after the other. Assumes nothing.
 use Prim.Native.Nat.{ℕ, suc, _+_, _-_, _*_, _≤_, _<_}
-use mathlib.Core.Path.{_≡_, refl, sym, ap, _∙_}
+use mathlib.Core.Path.{_≡_, sym, ap, _∙_}
 use mathlib.Core.List.{List}
 use native.Mathlib.Omega.{arith}
 use native.Mathlib.Numerals.{add-one}
 use borrow.Author.Needs.{needs}
 use lib.ListN.{length, getD, take}
-use Rattle.maps.specs.Map.{Map, IsDart, sew}
+use Rattle.maps.specs.Map.{Map, sew}
 use Rattle.maps.specs.Given.{lent, mapOf}
 use Rattle.maps.proofs.Accepted.{darts-most}
 use Rattle.maps.proofs.Given.{in-row, row-sew}
 use Rattle.maps.proofs.Answer.{backs-sew}
-use Rattle.labels.specs.Queue.{visit, tried, serve}
-use Rattle.labels.specs.Inside.{DartsOnce, Holds, Meets}
+use Rattle.labels.specs.Queue.{visit, tried}
+use Rattle.labels.specs.Inside.{Holds}
 use Rattle.labels.proofs.Queue.{tried-zero, tried-suc, tried-queue, serve-tried}
 use Rattle.labels.proofs.Inside.{holds-same, holds-meets}
 use Rattle.labels.proofs.Labelling.serve.Statement.{statement}

@@ -1,13 +1,13 @@
 -- `words::engine::race` meets its contract: darts are served in the order labelled, and each label met is judged against the word
 -- held, until the start is left or all are judged. Assumes nothing.
 use Prim.Native.Nat.{ℕ, suc, _+_, _-_, _*_, _≤_, _<_}
-use mathlib.Core.Path.{_≡_, refl, sym, ap, _∙_}
-use mathlib.Core.Bool.{Bool, true, false}
+use mathlib.Core.Path.{_≡_, sym, ap, _∙_}
+use mathlib.Core.Bool.{Bool}
 use mathlib.Core.List.{List}
 use native.Mathlib.Omega.{arith}
-use native.Mathlib.Nat.{mul-comm}
+use native.Mathlib.Nat.{mul-comm, mul-le-mul-right}
 use borrow.Author.Needs.{needs}
-use lib.ListN.{length, getD, take}
+use lib.ListN.{length, getD}
 use Rattle.maps.specs.Map.{Map, IsDart, sew}
 use Rattle.maps.specs.Accepted.{Accepted}
 use Rattle.maps.specs.Given.{Given, lent, mapOf}
@@ -19,41 +19,40 @@ use Rattle.labels.specs.Queue.{served, labelling}
 use Rattle.labels.proofs.Queue.{served-queue, labelling-served}
 use Rattle.labels.proofs.Inside.{holds-own, holds-meets}
 use Rattle.words.specs.Words.{word}
-use Rattle.words.specs.Inside.{Outcome, leavesAt}
+use Rattle.words.specs.Inside.{Outcome, front}
 use Rattle.words.specs.declared.engine.Side.{Side}
-use Rattle.words.proofs.Words.{length-word}
 use Rattle.words.proofs.Standing.{Ended, standing-end}
-use Rattle.words.proofs.Racing.{turnOf, rowOf, turn-dart, row-good, Serving, Rowing, serving-start, turn-read, turn-good, rowing-start, rowing-turn, rowing-end, rowing-left, row-inside, row-on, row-holds, met-few}
+use Rattle.words.proofs.Racing.{length-front, turnOf, turn-dart, row-good, Serving, Rowing, serving-start, turn-read, turn-good, rowing-start, rowing-turn, rowing-end, rowing-left, row-inside, row-on, row-holds, met-few}
 use Rattle.words.proofs.engine.race.Statement.{statement}
 use Rattle.words.proofs.engine.race.Tie as tie
 
 abbrev Inv-loop : tie.InvT-loop
-Inv-loop n m table back labels₀ queue₀ word₀ d firm labelling₀ side₀ p₀ k served row i₀ labels queue word labelling side p i =
-    Rowing (mapOf (lent n m table)) d k firm word₀ labels queue word (labelling .given) side₀ p₀ side p i
+Inv-loop n m table back labels₀ queue₀ word₀ d rows firm labelling₀ side₀ p₀ k served row i₀ labels queue word labelling side p i =
+    Rowing (mapOf (lent n m table)) d rows k firm word₀ labels queue word (labelling .given) side₀ p₀ side p i
 
 abbrev μ-loop : tie.MeasureT-loop
-μ-loop n m table back labels₀ queue₀ word₀ d firm labelling₀ side₀ p₀ k served row i₀ labels queue word labelling side p i = n - i
+μ-loop n m table back labels₀ queue₀ word₀ d rows firm labelling₀ side₀ p₀ k served row i₀ labels queue word labelling side p i = n - i
 
 abbrev Inv-labels : tie.InvT-labels
-Inv-labels n m table back labels₀ queue₀ word₀ d firm labelling₀ side₀ p₀ k₀ labels queue word labelling side p k =
-    Serving (mapOf (lent n m table)) d firm word₀ labels queue word (labelling .given) side p k
+Inv-labels n m table back labels₀ queue₀ word₀ d rows firm labelling₀ side₀ p₀ k₀ labels queue word labelling side p k =
+    Serving (mapOf (lent n m table)) d rows firm word₀ labels queue word (labelling .given) side p k
 
 abbrev μ-labels : tie.MeasureT-labels
-μ-labels n m table back labels₀ queue₀ word₀ d firm labelling₀ side₀ p₀ k₀ labels queue word labelling side p k = m - k
+μ-labels n m table back labels₀ queue₀ word₀ d rows firm labelling₀ side₀ p₀ k₀ labels queue word labelling side p k = rows - k
 
--- the word is as long as the table, so what was held is the table's length of it
-ended-outcome : {g : Given} {d : ℕ} (taken : Accepted (mapOf g)) (dart : IsDart (mapOf g) d) {firm : Bool} {held held′ : List ℕ} {side : Side} → Ended (word (mapOf g) d) held held′ firm side → Outcome g d firm held held′ side
+-- the rows are so many numbers, so what was held is as many of them
+ended-outcome : {g : Given} {d rows : ℕ} (taken : Accepted (mapOf g)) (dart : IsDart (mapOf g) d) (most : rows ≤ mapOf g .darts) {firm : Bool} {held held′ : List ℕ} {side : Side} → Ended (front (mapOf g) d rows) held held′ firm side → Outcome g d rows firm held held′ side
 unfolding mapOf
-ended-outcome {d = d} taken dart e = let long = length-word taken d dart in record { outcome = rw long at (e .outcome); best = rw long at (e .best) }
+ended-outcome {d = d} {rows = rows} taken dart most e = let long = length-front taken d dart rows most in record { outcome = rw long at (e .outcome); best = rw long at (e .best) }
 
--- once every dart is served, the numbers judged are the whole word
-judged-all : {M : Map} {d : ℕ} (taken : Accepted M) (dart : IsDart M d) {firm : Bool} {held₀ labels queue held : List ℕ} {given : ℕ} {side : Side} {p k : ℕ}
-    → Serving M d firm held₀ labels queue held given side p k
-    → M .darts ≤ k
-    → p ≡ length (word M d)
-judged-all {M} {d} taken dart {k = k} s past =
-    let all : k ≡ M .darts = omega (arith, s .high) in
-    s .place ∙ ap (λ (j : ℕ). j * M .dim) all ∙ mul-comm (M .darts) (M .dim) ∙ sym (length-word taken d dart)
+-- once as many darts are served, the numbers judged are all of the rows
+judged-all : {M : Map} {d rows : ℕ} (taken : Accepted M) (dart : IsDart M d) (most : rows ≤ M .darts) {firm : Bool} {held₀ labels queue held : List ℕ} {given : ℕ} {side : Side} {p k : ℕ}
+    → Serving M d rows firm held₀ labels queue held given side p k
+    → rows ≤ k
+    → p ≡ length (front M d rows)
+judged-all {M} {d} {rows} taken dart most {k = k} s past =
+    let all : k ≡ rows = omega (arith, s .high) in
+    s .place ∙ ap (λ (j : ℕ). j * M .dim) all ∙ sym (length-front taken d dart rows most)
 
 -- the places of this proof
 abbrev Start : Type 0
@@ -92,6 +91,15 @@ map-of s = let a = s .args in mapOf (lent (a .n) (a .m) (a .table .now))
 few : (s : Start) → s .args .m ≤ 1020
 few s = darts-most (s .pre .shaped .bounds)
 
+-- the rows are the map's
+most : (s : Start) → s .args .rows ≤ map-of s .darts
+unfolding mapOf
+most s = s .pre .some-rows
+
+in-map : (c : tie.In-labels Inv-loop μ-loop Inv-labels μ-labels) → c .before .labels .k < map-of (start (c .before)) .darts
+unfolding mapOf
+in-map c = omega (arith, most (start (c .before)), c .labels-test .taken)
+
 -- the start has a place in the arrays
 inside : (s : Start) → (1 ≤ s .args .d) × (s .args .d ≤ 1020)
 unfolding mapOf
@@ -100,16 +108,16 @@ inside s = (s .pre .dart .0, omega (arith, s .pre .dart .1, few s))
 labels-holds : tie.Need-labels-holds Inv-loop μ-loop Inv-labels μ-labels
 labels-holds c =
     let s = c .before in
-    rw (s .pre .blank) (serving-start (s .pre .taken) _ (s .pre .dart) (s .args .firm) (s .args .queue .now) _ (s .pre .long-queue))
+    rw (s .pre .blank) (serving-start (s .pre .taken) _ (s .pre .dart) (s .args .rows) (s .args .firm) (s .args .queue .now) _ (s .pre .long-queue))
 
 -- the word's array is long enough for the word
-fits : (s : Start) → length (word (map-of s) (s .args .d)) ≤ length (s .args .word .now)
+fits : (s : Start) → length (front (map-of s) (s .args .d) (s .args .rows)) ≤ length (s .args .word .now)
 unfolding mapOf
-fits s = omega (arith, length-word (s .pre .taken) _ (s .pre .dart), s .pre .shaped .bounds .table-most, s .pre .long-word)
+fits s = omega (arith, length-front (s .pre .taken) _ (s .pre .dart) (s .args .rows) (most s), mul-le-mul-right (s .args .n) (most s), mul-comm (s .args .m) (s .args .n), s .pre .shaped .bounds .table-most, s .pre .long-word)
 
 -- a dart is served only where there are as many
 turn : (c : tie.In-labels Inv-loop μ-loop Inv-labels μ-labels) → c .before .labels .k < 1020
-turn c = omega (arith, few (start (c .before)))
+turn c = omega (arith, in-map c, few (start (c .before)))
 
 -- what is read from the queue is the dart whose turn it is
 served-is : (c : Wide) →
@@ -118,13 +126,13 @@ served-is : (c : Wide) →
 unfolding mapOf
 served-is c =
     let l = in-labels c .before in
-    c .wide .ensures ∙ turn-read (start l .pre .taken) _ (start l .pre .dart) (l .labels .inv) (in-labels c .labels-test .taken)
+    c .wide .ensures ∙ turn-read (start l .pre .taken) _ (start l .pre .dart) (most (start l)) (l .labels .inv) (in-labels c .labels-test .taken)
 
 served-dart : (c : Wide) → IsDart (map-of (start (in-labels c .before))) (c .wide .result)
 unfolding mapOf
 served-dart c =
     let l = in-labels c .before in
-    let dart = turn-dart (start l .pre .taken) _ (start l .pre .dart) (l .labels .k) (in-labels c .labels-test .taken) in
+    let dart = turn-dart (start l .pre .taken) _ (start l .pre .dart) (l .labels .k) (in-map (in-labels c)) in
     omega (arith, served-is c)
 
 served-few : (c : Wide) → (1 ≤ c .wide .result) × (c .wide .result ≤ 1020)
@@ -155,7 +163,7 @@ unfolding mapOf
 meet-requires c κs =
     let l = in-labels (read c) .before in
     let s = start l in
-    holds-meets (l .labels .inv .holds) (turn-good (s .pre .taken) _ (s .pre .dart) (l .labels .inv) (in-labels (read c) .labels-test .taken)) (few s) _ (before-few c)
+    holds-meets (l .labels .inv .holds) (turn-good (s .pre .taken) _ (s .pre .dart) (most s) (l .labels .inv) (in-labels (read c) .labels-test .taken)) (few s) _ (before-few c)
 
 -- the dart's row lies in the table
 in-the-row : (c : Wide) (i : ℕ) →
@@ -176,7 +184,7 @@ unfolding mapOf
 loop-holds c =
     let w = read (c .before) in
     let l = in-labels w .before in
-    rowing-start (start l .pre .taken) _ (start l .pre .dart) (l .labels .inv) (in-labels w .labels-test .taken) (before-is (c .before)) (c .meet .ensures)
+    rowing-start (start l .pre .taken) _ (start l .pre .dart) (most (start l)) (l .labels .inv) (in-labels w .labels-test .taken) (before-is (c .before)) (c .meet .ensures)
 
 -- what is read from the table is βi of the dart whose turn it is
 entry-is : (c : tie.After-wide3 Inv-loop μ-loop Inv-labels μ-labels) →
@@ -205,7 +213,7 @@ meet-requires-2 c κs =
     let w = wide-of t in
     let l = in-labels w .before in
     let s = start l in
-    holds-meets (t .before .loop .inv .holds) (row-good (s .pre .taken) _ (s .pre .dart) (l .labels .k) (in-labels w .labels-test .taken) (t .before .loop .i)) (few s) _ (entry-few c)
+    holds-meets (t .before .loop .inv .holds) (row-good (s .pre .taken) _ (s .pre .dart) (l .labels .k) (in-map (in-labels w)) (t .before .loop .i)) (few s) _ (entry-few c)
 
 -- in a turn the number's place is in the word
 place-fits : (t : InLoop) → t .before .loop .p < 1020
@@ -214,8 +222,8 @@ place-fits t =
     let w = wide-of t in
     let l = in-labels w .before in
     let s = start l in
-    let here = row-inside (s .pre .taken) _ (s .pre .dart) (l .labels .inv) (in-labels w .labels-test .taken) (t .before .loop .inv) (t .loop-test .taken) in
-    omega (arith, here, length-word (s .pre .taken) _ (s .pre .dart), s .pre .shaped .bounds .table-most)
+    let here = row-inside (s .pre .taken) _ (s .pre .dart) (most s) (l .labels .inv) (in-labels w .labels-test .taken) (t .before .loop .inv) (t .loop-test .taken) in
+    omega (arith, here, fits s, s .pre .long-word)
 
 weigh-requires : tie.Need-weigh-requires Inv-loop μ-loop Inv-labels μ-labels
 unfolding mapOf
@@ -230,7 +238,7 @@ weigh-requires c κs =
     record {
       place = place-fits t;
       fits = met-few (m .meet2 .ensures);
-      on = row-on taken _ (s .pre .dart) (l .labels .inv) turn (t .before .loop .inv) (t .loop-test .taken) (fits s);
+      on = row-on taken _ (s .pre .dart) (most s) (l .labels .inv) turn (t .before .loop .inv) (t .loop-test .taken) (fits s);
     }
 
 loop-again : tie.Need-loop-again Inv-loop μ-loop Inv-labels μ-labels
@@ -241,7 +249,7 @@ loop-again c =
     let t = in-loop (m .before) in
     let w = wide-of t in
     let l = in-labels w .before in
-    rowing-turn (start l .pre .taken) _ (start l .pre .dart) (l .labels .inv) (in-labels w .labels-test .taken) (t .before .loop .inv) (t .loop-test .taken) (entry-is (m .before))
+    rowing-turn (start l .pre .taken) _ (start l .pre .dart) (most (start l)) (l .labels .inv) (in-labels w .labels-test .taken) (t .before .loop .inv) (t .loop-test .taken) (entry-is (m .before))
     (m .meet2 .ensures)
     (judged .before .weigh .ensures)
     (sym (judged .leaves .ensures) ∙ c .if1 .left)
@@ -251,7 +259,7 @@ unfolding mapOf
 labels-again c =
     let w = read (c .before .before .before) in
     let l = in-labels w .before in
-    rowing-end (start l .pre .taken) _ (start l .pre .dart) (l .labels .inv) (in-labels w .labels-test .taken) (c .before .loop .inv) (fits (start l)) (c .loop-test .left)
+    rowing-end (start l .pre .taken) _ (start l .pre .dart) (most (start l)) (l .labels .inv) (in-labels w .labels-test .taken) (c .before .loop .inv) (fits (start l)) (c .loop-test .left)
 
 returns : tie.Need-returns Inv-loop μ-loop Inv-labels μ-labels
 unfolding mapOf
@@ -260,14 +268,14 @@ returns c =
     let inv = c .before .labels .inv in
     let taken = s .pre .taken in
     let to-darts = taken .open-map .to-darts in
-    let all = judged-all taken (s .pre .dart) inv (c .labels-test .left) in
+    let all = judged-all taken (s .pre .dart) (most s) inv (c .labels-test .left) in
     let k = c .before .labels .k in
-    let last : k ≡ s .args .m = omega (arith, inv .high, c .labels-test .left) in
+    let last : k ≡ s .args .rows = omega (arith, inv .high, c .labels-test .left) in
     record {
-      came = ended-outcome taken (s .pre .dart) (standing-end (fits s) (rw all at (inv .stands)));
+      came = ended-outcome taken (s .pre .dart) (most s) (standing-end (fits s) (rw all at (inv .stands)));
       good = rw (inv .holds .so-far) (served-queue _ to-darts _ (s .pre .dart) k);
       holds = holds-own (inv .holds);
-      whole = λ on. inv .holds .so-far ∙ ap (served _ (s .args .d)) last ∙ sym (labelling-served _ (s .args .d));
+      whole = λ on all-rows. inv .holds .so-far ∙ ap (served _ (s .args .d)) (last ∙ all-rows) ∙ sym (labelling-served _ (s .args .d));
     }
 
 returns-2 : tie.Need-returns-2 Inv-loop μ-loop Inv-labels μ-labels
@@ -282,15 +290,15 @@ returns-2 c =
     let taken = s .pre .taken in
     let turn = in-labels w .labels-test .taken in
     let gone = sym (judged .leaves .ensures) ∙ c .if1 .taken in
-    let held = row-holds taken _ (s .pre .dart) (l .labels .inv) turn (t .before .loop .inv) (t .loop-test .taken) (entry-is (m .before)) (m .meet2 .ensures) in
+    let held = row-holds taken _ (s .pre .dart) (most s) (l .labels .inv) turn (t .before .loop .inv) (t .loop-test .taken) (entry-is (m .before)) (m .meet2 .ensures) in
     record {
-      came = ended-outcome taken (s .pre .dart)
-          (rowing-left taken _ (s .pre .dart) (l .labels .inv) turn (t .before .loop .inv) (t .loop-test .taken) (entry-is (m .before)) (m .meet2 .ensures) (judged .before .weigh .ensures)
+      came = ended-outcome taken (s .pre .dart) (most s)
+          (rowing-left taken _ (s .pre .dart) (most s) (l .labels .inv) turn (t .before .loop .inv) (t .loop-test .taken) (entry-is (m .before)) (m .meet2 .ensures) (judged .before .weigh .ensures)
           (fits s)
           gone);
-      good = rw (held .so-far) (row-good taken _ (s .pre .dart) (l .labels .k) turn (suc (t .before .loop .i)));
+      good = rw (held .so-far) (row-good taken _ (s .pre .dart) (l .labels .k) (in-map (in-labels w)) (suc (t .before .loop .i)));
       holds = holds-own held;
-      whole = λ on. absurd (true-not-false gone on);
+      whole = λ on _. absurd (true-not-false gone on);
     }
 
 pub race-spec : {M : Type 1} → statement M

@@ -1,5 +1,5 @@
 -- `words::engine::try_start` meets its contract: the race, and then its labels are forgotten. Assumes nothing.
-use Prim.Native.Nat.{ℕ, _≤_}
+use Prim.Native.Nat.{ℕ}
 use mathlib.Core.Path.{_≡_, sym, ap, _∙_}
 use mathlib.Core.List.{List}
 use borrow.Author.Needs.{needs}
@@ -42,8 +42,8 @@ returns c =
       came = raced .came;
       blank = c .forget .ensures;
       long-queue = raced .holds .long-queue;
-      whole = λ on.
-          let is = raced .whole on in
+      whole = λ on all-rows.
+          let is = raced .whole on all-rows in
           taken-all _ _ _ _ is (ap length (sym is) ∙ holds-length (raced .holds)) (labelling-numbers (s .pre .taken) _ (s .pre .dart) .long);
     }
 

@@ -1,7 +1,6 @@
 -- `words::engine::weigh` meets its contract: a start that is less stays less, and one that is tied is compared. Assumes nothing.
-use mathlib.Core.Path.{_≡_, refl, ap}
-use mathlib.Core.Bool.{true, false}
-use native.Mathlib.Omega.{arith}
+use mathlib.Core.Path.{_≡_, refl}
+use mathlib.Core.Bool.{false}
 use borrow.Author.Needs.{needs}
 use Rattle.words.specs.Inside.{sideAfter, leavesAt, isLess}
 use Rattle.words.proofs.engine.weigh.Statement.{statement}

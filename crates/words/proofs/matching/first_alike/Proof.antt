@@ -1,20 +1,19 @@
 -- `words::matching::first_alike` meets its contract: the starts are tried upwards, until one yields the word held. Assumes nothing.
-use Prim.Native.Nat.{ℕ, _+_, _-_, _*_, _≤_, _<_}
+use Prim.Native.Nat.{ℕ, _+_, _-_, _*_, _≤_}
 use mathlib.Core.Path.{_≡_, refl, sym, ap, _∙_}
-use mathlib.Core.Bool.{Bool, true, false}
+use mathlib.Core.Bool.{true}
 use mathlib.Core.List.{List}
 use native.Mathlib.Omega.{arith}
 use borrow.Author.Needs.{needs}
 use lib.ListN.{length, take, replicate}
 use Rattle.maps.specs.Map.{Map}
-use Rattle.maps.specs.Given.{Given, lent, mapOf}
-use Rattle.maps.proofs.Least.{true-not-false, Passed, passed-start, passed-turn, passed-found, passed-misses, least-is, none-least}
+use Rattle.maps.specs.Given.{lent, mapOf}
+use Rattle.maps.proofs.Least.{Passed, passed-start, passed-turn, passed-found, passed-misses, least-is, none-least}
 use Rattle.maps.proofs.Accepted.{darts-most}
 use Rattle.words.specs.Words.{word, yields}
-use Rattle.words.specs.Inside.{sideOf, leavesAt, isSame, Tried}
-use Rattle.words.specs.declared.engine.Side.{Side}
-use Rattle.words.specs.declared.engine.Side.the-variants.{Less, Same, Greater}
-use Rattle.words.proofs.Starts.{same-yields}
+use Rattle.words.specs.Inside.{sideOf}
+use Rattle.words.proofs.Racing.{tried-whole}
+use Rattle.words.proofs.Starts.{seeks-ready, same-yields, same-stays}
 use Rattle.words.proofs.matching.first_alike.Statement.{statement}
 use Rattle.words.proofs.matching.first_alike.Tie as tie
 
@@ -26,13 +25,6 @@ record Seeking (M : Map) (held₀ labels queue held : List ℕ) (d : ℕ) : Type
   long-queue : length queue ≡ 1020
   firm : held ≡ held₀
   so-far : Passed (yields M (take (M .dim * M .darts) held₀)) d
-
--- a start that comes out the same is not left
-same-stays : (s : Side) → isSame s ≡ true → leavesAt true s ≡ false
-unfolding isSame leavesAt
-same-stays Less e = absurd (true-not-false e refl)
-same-stays Same e = refl
-same-stays Greater e = absurd (true-not-false e refl)
 
 abbrev Inv-loop : tie.InvT-loop
 Inv-loop n m table back labels₀ queue₀ word₀ d₀ labels queue word d = Seeking (mapOf (lent n m table)) word₀ labels queue word d
@@ -62,27 +54,22 @@ try-start-requires c κs =
     let t = c .before .before .before in
     let s = start (t .before) in
     let y = t .before .loop .inv in
-    record {
-      shaped = s .pre .shaped;
-      taken = s .pre .taken;
-      backs = s .pre .backs;
-      dart = (y .low, t .loop-test .taken);
-      blank = y .blank;
-      long-queue = y .long-queue;
-      long-word = ap length (y .firm) ∙ s .pre .long-word;
-    }
+    seeks-ready (s .pre) (y .low, t .loop-test .taken) (y .blank) (y .long-queue) (y .firm)
 
 -- whether the start yields the word held
 yielded : (c : tie.After-alike Inv-loop μ-loop) →
     let l = in-loop (tried c) .before in
     let a = start l .args in
     yields (mapOf (lent (a .n) (a .m) (a .table .now))) (take (a .n * a .m) (a .word .now)) (l .loop .d) ≡ c .alike .result
+unfolding mapOf
 yielded c =
-    let l = in-loop (tried c) .before in
+    let t = in-loop (tried c) in
+    let l = t .before in
+    let came = tried-whole (start l .pre .taken) (l .loop .inv .low, t .loop-test .taken) (tried c .try-start .ensures) .outcome in
     let a = start l .args in
     let M = mapOf (lent (a .n) (a .m) (a .table .now)) in
     same-yields M _ (l .loop .d) _ _
-    (tried c .try-start .ensures .came .outcome ∙ ap (λ (held : List ℕ). sideOf (word M (l .loop .d)) (take (a .n * a .m) held)) (l .loop .inv .firm))
+    (came ∙ ap (λ (held : List ℕ). sideOf (word M (l .loop .d)) (take (a .n * a .m) held)) (l .loop .inv .firm))
     (c .alike .ensures)
 
 returns : tie.Need-returns Inv-loop μ-loop
@@ -94,7 +81,7 @@ returns c =
     let hit = yielded (c .before) ∙ c .if1 .taken in
     record {
       found = sym (least-is _ _ (passed-found _ (inv .so-far) (inv .low) (omega arith) hit));
-      whole = λ some. done .whole (same-stays (tried (c .before) .try-start .result) (sym (c .before .alike .ensures) ∙ c .if1 .taken));
+      whole = λ some. done .whole (same-stays true (tried (c .before) .try-start .result) (sym (c .before .alike .ensures) ∙ c .if1 .taken)) refl;
       long-queue = done .long-queue;
     }
 

@@ -2,7 +2,7 @@
 -- are tried against it. Assumes nothing.
 use Prim.Native.Nat.{ℕ, _+_, _*_, _≤_, _<_}
 use mathlib.Core.Path.{_≡_, refl, sym, ap, ap₂, _∙_}
-use mathlib.Core.Bool.{true, false, cond}
+use mathlib.Core.Bool.{true, false}
 use mathlib.Core.List.{List, map}
 use mathlib.Core.Logic.{inl, inr}
 use native.Mathlib.Omega.{arith}
@@ -24,13 +24,14 @@ use Rattle.labels.proofs.Reached.{labelling-numbers}
 use Rattle.labels.proofs.Judging.{table-clear, table-whole, check-whole}
 use Rattle.labels.proofs.Theorems.{check-numbers}
 use Rattle.words.specs.Words.{word, lesser, yields, byLabels}
-use Rattle.words.specs.Match.{imageOfFirst, shown, matchAnswer}
+use Rattle.words.specs.Match.{imageOfFirst, shown}
 use Rattle.words.specs.Sign.{over}
-use Rattle.words.specs.Inside.{sideOf, leavesAt, Tried, Images}
+use Rattle.words.specs.Inside.{leavesAt, Images, Tried}
 use Rattle.words.specs.declared.engine.Side.{Side}
 use Rattle.words.specs.declared.engine.Side.the-variants.{Less}
 use Rattle.words.proofs.Words.{length-word}
-use Rattle.words.proofs.Starts.{less-side, lesser-less, word-below, bestAfter-zero}
+use Rattle.words.proofs.Starts.{less-side, lesser-less, word-below}
+use Rattle.words.proofs.Racing.{tried-whole}
 use Rattle.words.proofs.Sign.{take-replicate, over-front, over-long}
 use Rattle.words.proofs.Match.{match-first, match-second, match-unlike, match-none, match-passed, matches-refused, matches-passed, Cleared, match-clear}
 use Rattle.words.proofs.matching.match_maps.Statement.{statement}
@@ -45,23 +46,23 @@ record Spelt (g : Given) (queue held : List ℕ) : Type 0 where
 first-dart : {M : Map} → Accepted M → IsDart M 1
 first-dart a = (le-refl 1, a .bounds .darts-least)
 
-spelt : {g : Given} → Accepted (mapOf g) → {labels′ queue′ held′ : List ℕ} {side : Side} → Tried g 1 false (replicate 1020 65535) labels′ queue′ held′ side → Spelt g queue′ held′
+spelt : {g : Given} → Accepted (mapOf g) → {labels′ queue′ held′ : List ℕ} {side : Side} → Tried g 1 (g .m) false (replicate 1020 65535) labels′ queue′ held′ side → Spelt g queue′ held′
 unfolding mapOf leavesAt
 spelt {g} a {held′ = held′} {side = side} t =
     let M = mapOf g in
     let size = g .n * g .m in
+    let w = tried-whole a (first-dart a) t in
     let above : take {A = ℕ} size (replicate 1020 65535) ≡ replicate size 65535 = take-replicate size 1020 65535 (a .bounds .table-most) in
-    let below = rw (bestAfter-zero M) at (word-below a 1 (first-dart a)) in
-    let is-less = rw (← above) at below in
+    let is-less = rw (← above) at (word-below a 1 (first-dart a)) in
     let best : lesser (take size (replicate 1020 65535)) (word M 1) ≡ word M 1 = lesser-less (word M 1) _ is-less in
-    let held : held′ ≡ over (word M 1) (replicate 1020 65535) = t .came .best ∙ ap (λ (w : List ℕ). over w (replicate 1020 65535)) best in
-    let side-is : side ≡ Less = t .came .outcome ∙ less-side (word M 1) _ is-less in
+    let held : held′ ≡ over (word M 1) (replicate 1020 65535) = w .best ∙ ap (λ (w : List ℕ). over w (replicate 1020 65535)) best in
+    let side-is : side ≡ Less = w .outcome ∙ less-side (word M 1) _ is-less in
     let long-word = length-word a 1 (first-dart a) in
     let all = length-replicate {A = ℕ} 1020 65535 in
     record {
       numbers = ap (take size) held ∙ over-front (word M 1) (replicate 1020 65535) size long-word;
       long = ap length held ∙ over-long (word M 1) (replicate 1020 65535) (omega (arith, long-word, a .bounds .table-most, all)) ∙ all;
-      order = t .whole (rw side-is refl);
+      order = w .whole (rw side-is refl);
     }
 
 -- the images may be written
@@ -144,6 +145,7 @@ try-start-requires c κs =
       taken = passed .2;
       backs = answer .answer .backs ∙ simp (accepting t);
       dart = first-dart (passed .2);
+      some-rows = omega arith;
       blank = answer .blank;
       long-queue = length-replicate {A = ℕ} 1020 0;
       long-word = length-replicate {A = ℕ} 1020 65535;

@@ -1,157 +1,242 @@
--- `words::own_signature::is_least` meets its contract: the starts are tried upwards; none may be less, and one must yield the word held.
--- Assumes nothing.
+-- `words::own_signature::is_least` meets its contract: the starts are tried upwards, and none may be less than the word that start 1
+-- yields. Assumes nothing.
 use Prim.Native.Nat.{ℕ, _+_, _-_, _*_, _≤_, _<_}
 use mathlib.Core.Path.{_≡_, refl, sym, ap, _∙_}
-use mathlib.Core.Bool.{Bool, true, false, _||_}
+use mathlib.Core.Bool.{true, false}
 use mathlib.Core.List.{List}
 use native.Mathlib.Omega.{arith}
 use borrow.Author.Needs.{needs}
 use lib.ListN.{length, take, replicate}
-use Rattle.maps.specs.Map.{Map, IsDart}
+use Rattle.maps.specs.Least.{nth}
+use Rattle.maps.specs.Map.{IsDart}
 use Rattle.maps.specs.Given.{Given, lent, mapOf}
-use Rattle.maps.proofs.Least.{Tested, passes, fails, tested, true-not-false, Passed, passed-start, passed-turn, passed-misses}
+use Rattle.maps.proofs.Least.{nth-at, Passed, passed-start, passed-turn, passed-misses}
 use Rattle.maps.proofs.Accepted.{darts-most}
-use Rattle.words.specs.Words.{word, same, less, signature, yields}
-use Rattle.words.specs.Inside.{sideOf, isLess, isSame}
+use Rattle.words.specs.Words.{word, same, less}
+use Rattle.words.specs.Forest.{joinedAll, JoinsAll}
+use Rattle.words.specs.FirstRow.{rankOf}
+use Rattle.words.specs.Inside.{sideOf, isLess, isSame, Tried, Leads}
 use Rattle.words.specs.declared.engine.Side.{Side}
-use Rattle.words.proofs.Starts.{same-yields, less-told}
-use Rattle.words.proofs.Own.{own-yielded, own-missed, own-less}
+use Rattle.words.proofs.Order.{less-irreflexive, yields-word, word-yields}
+use Rattle.words.proofs.Starts.{greater-not-less, seeks-ready, same-stays, same-yields, less-told}
+use Rattle.words.proofs.Racing.{TriedWhole, tried-whole}
+use Rattle.words.proofs.Kin.{Kin, kin-none, Alike, tied-alike, alike-joins, kin-joinedAll}
+use Rattle.words.proofs.FirstRow.{rank-less}
+use Rattle.words.proofs.Own.{own-yielded, own-less}
 use Rattle.words.proofs.own_signature.is_least.Statement.{statement}
 use Rattle.words.proofs.own_signature.is_least.Tie as tie
 
--- one of the starts yields the word w
-record Yielding (M : Map) (w : List ℕ) : Type 0 where
-  start : ℕ
-  dart : IsDart M start
-  hit : yields M w start ≡ true
-
--- what the starts below d have shown
-record Shown (M : Map) (w : List ℕ) (some : Bool) (d : ℕ) : Type 0 where
-  none-less : Passed (λ e. less (word M e) w) d
-  one : some ≡ true → Yielding M w
-  none : some ≡ false → Passed (yields M w) d
-
-module _ {M : Map} {w : List ℕ} {some : Bool} {d : ℕ} (s : Shown M w some d) (dart : IsDart M d) where
-  shown-next : less (word M d) w ≡ false → (b : Bool) → yields M w d ≡ b → Shown M w (b || some) (d + 1)
-  shown-next above true hit =
-      record {
-        none-less = passed-turn _ (s .none-less) above;
-        one = λ e. record { start = d; dart = dart; hit = hit };
-        none = λ e. absurd (true-not-false refl e);
-      }
-  shown-next above false miss =
-      record {
-        none-less = passed-turn _ (s .none-less) above;
-        one = s .one;
-        none = λ e. passed-turn _ (s .none e) miss;
-      }
-
-shown-done : {M : Map} {w : List ℕ} {some : Bool} {d : ℕ} → Shown M w some d → 1 ≤ M .darts → M .darts < d → some ≡ same w (signature M)
-shown-done {M} {w} {some} {d} s darts past = at (tested some)
-  where
-    at : Tested some → some ≡ same w (signature M)
-    at (passes e) = let y = s .one e in e ∙ sym (own-yielded M w (passed-misses _ (s .none-less) past) (y .start) (y .dart) (y .hit))
-    at (fails e) = e ∙ sym (own-missed M w darts (passed-misses _ (s .none e) past))
-
--- the starts below d are tried against the word held
-record Trying (M : Map) (held₀ labels queue held : List ℕ) (some : Bool) (d : ℕ) : Type 0 where
+-- the starts up to d are tried or passed over, and none is less
+record Trying (g : Given) (held₀ labels queue held up : List ℕ) (d : ℕ) : Type 0 where
   low : 1 ≤ d
   blank : labels ≡ replicate 1020 0
   long-queue : length queue ≡ 1020
   firm : held ≡ held₀
-  shown : Shown M (take (M .dim * M .darts) held₀) some d
+  kin : Kin (mapOf g) up
+  none-less : Passed (λ e. less (word (mapOf g) e) (take (g .n * g .m) held₀)) (d + 1)
+
+-- of a start that is passed over, the dart over it was tried
+trying-passed : {g : Given} {held₀ labels queue held up : List ℕ} {k d : ℕ} → Trying g held₀ labels queue held up k → k + 1 ≡ d → IsDart (mapOf g) d → 0 < nth up d → Trying g held₀ labels queue held up d
+trying-passed {g} {held₀} {up = up} {k = k} {d = d} y next dart covered =
+    let kin = y .kin in
+    let same = kin .one-word d (dart .0) (dart .1) covered in
+    let lower = kin .forest .lower d (dart .0) in
+    let earlier = rw next at (y .none-less) in
+    record {
+      low = dart .0;
+      blank = y .blank;
+      long-queue = y .long-queue;
+      firm = y .firm;
+      kin = kin;
+      none-less = passed-turn _ earlier (rw (← same) (earlier (nth up d) covered lower));
+    }
+
+-- a start of a greater rank than start 1 has a greater word
+trying-left : {g : Given} {back labels₀ queue₀ lead held₀ labels queue held up : List ℕ} {k d : ℕ} → Leads g back labels₀ queue₀ lead held₀ → Trying g held₀ labels queue held up k → k + 1 ≡ d → IsDart (mapOf g) d
+    → rankOf (mapOf g) 1 < rankOf (mapOf g) d → Trying g held₀ labels queue held up d
+unfolding mapOf
+trying-left {g} {d = d} p y next dart lower =
+    let taken = p .seeks .taken in
+    let greater = rank-less taken 1 d (omega arith, taken .bounds .darts-least) dart lower in
+    record {
+      low = dart .0;
+      blank = y .blank;
+      long-queue = y .long-queue;
+      firm = y .firm;
+      kin = y .kin;
+      none-less = passed-turn _ (rw next at (y .none-less)) (greater-not-less _ _ (rw (p .first) at greater));
+    }
+
+module _ (g : Given) {back labels₀ queue₀ lead held₀ : List ℕ} (p : Leads g back labels₀ queue₀ lead held₀) {labels queue held up : List ℕ} {k d : ℕ} (y : Trying g held₀ labels queue held up k) (next : k + 1 ≡ d) (dart : IsDart (mapOf g) d)
+    {labels′ queue′ held′ : List ℕ} {side : Side} (t : Tried g d (g .m) true held labels′ queue′ held′ side) where
+  -- how its whole word comes out
+  all : TriedWhole g d true held labels′ queue′ held′ side
+  all = tried-whole (p .seeks .taken) dart t
+
+  abbrev best : List ℕ
+  best = take (g .n * g .m) held₀
+
+  came : side ≡ sideOf (word (mapOf g) d) best
+  came = all .outcome ∙ ap (λ (h : List ℕ). sideOf (word (mapOf g) d) (take (g .n * g .m) h)) (y .firm)
+
+  -- a start that is not less
+  trying-turn : {up′ : List ℕ} → Kin (mapOf g) up′ → isLess side ≡ false → Trying g held₀ labels′ queue′ held′ up′ d
+  trying-turn k not-less =
+      record {
+        low = dart .0;
+        blank = t .blank;
+        long-queue = t .long-queue;
+        firm = all .best ∙ y .firm;
+        kin = k;
+        none-less = passed-turn _ (rw next at (y .none-less)) (less-told _ _ _ _ came refl ∙ not-less);
+      }
+
+  -- a start that is tied has the word of start 1
+  tied : isSame side ≡ true → Alike (mapOf g) queue′ lead (mapOf g .darts)
+  unfolding mapOf
+  tied is =
+      let M = mapOf g in
+      let taken = p .seeks .taken in
+      let own : word M d ≡ best = yields-word M best d (same-yields M best d side (isSame side) came refl ∙ is) in
+      tied-alike taken d 1 dart (omega arith, taken .bounds .darts-least) (own ∙ sym (p .first)) (all .whole (same-stays true side is)) (p .order)
+
+  joins : isSame side ≡ true → JoinsAll up queue′ lead (g .m)
+  unfolding mapOf
+  joins is = alike-joins (p .seeks .taken) (y .kin .forest) (t .long-queue) (p .long-lead) (tied is)
+
+  joined-kin : isSame side ≡ true → Kin (mapOf g) (joinedAll (g .m) queue′ lead up)
+  unfolding mapOf
+  joined-kin is = kin-joinedAll (p .seeks .taken) (y .kin) (tied is) (g .m) (omega arith)
 
 abbrev Inv-loop : tie.InvT-loop
-Inv-loop n m table back labels₀ queue₀ word₀ some₀ d₀ labels queue word some d = Trying (mapOf (lent n m table)) word₀ labels queue word some d
+Inv-loop n m table back labels₀ queue₀ lead word₀ first up₀ d₀ labels queue word up d = Trying (lent n m table) word₀ labels queue word up d
 
 abbrev μ-loop : tie.MeasureT-loop
-μ-loop n m table back labels₀ queue₀ word₀ some₀ d₀ labels queue word some d = m + 1 - d
+μ-loop n m table back labels₀ queue₀ lead word₀ first up₀ d₀ labels queue word up d = m - d
 
 -- the places of this proof
 abbrev start : tie.At-loop Inv-loop μ-loop → tie.Start Inv-loop μ-loop
-start c = c .before .before
+start c = c .before .before .before
 
-abbrev at-loop : tie.After-below Inv-loop μ-loop → tie.At-loop Inv-loop μ-loop
-at-loop c = c .before .before .before .before .before .before
+abbrev not-over : tie.After-rank2 Inv-loop μ-loop → tie.In-loop Inv-loop μ-loop
+not-over c = c .before .before .before
 
-abbrev tried : tie.After-below Inv-loop μ-loop → tie.After-try-start Inv-loop μ-loop
-tried c = c .before
+abbrev in-loop : tie.After-try-start Inv-loop μ-loop → tie.In-loop Inv-loop μ-loop
+in-loop c = not-over (c .before .before .before .before .before)
 
-abbrev map-of : tie.At-loop Inv-loop μ-loop → Map
-map-of c = let a = start c .args in mapOf (lent (a .n) (a .m) (a .table .now))
+abbrev tried : tie.After-alike Inv-loop μ-loop → tie.After-try-start Inv-loop μ-loop
+tried c = c .before .before .before
 
--- the word held
-abbrev held : tie.At-loop Inv-loop μ-loop → List ℕ
-held c = let a = start c .args in take (a .n * a .m) (a .word .now)
+abbrev given : tie.At-loop Inv-loop μ-loop → Given
+given c = let a = start c .args in lent (a .n) (a .m) (a .table .now)
 
--- how the start came out against it
-came : (c : tie.After-below Inv-loop μ-loop) → tried c .try-start .result ≡ sideOf (word (map-of (at-loop c)) (at-loop c .loop .d)) (held (at-loop c))
-came c =
-    let l = at-loop c in
-    let a = start l .args in
-    tried c .try-start .ensures .came .outcome ∙ ap (λ (h : List ℕ). sideOf (word (map-of l) (l .loop .d)) (take (a .n * a .m) h)) (l .loop .inv .firm)
-
-dart : (c : tie.After-below Inv-loop μ-loop) → IsDart (map-of (at-loop c)) (at-loop c .loop .d)
+-- the start of a turn is a dart
+dart : (c : tie.In-loop Inv-loop μ-loop) → IsDart (mapOf (given (c .before))) (c .before .loop .d + 1)
 unfolding mapOf
-dart c = (at-loop c .loop .inv .low, tried c .before .before .before .before .loop-test .taken)
+dart c = (omega arith, omega (arith, c .loop-test .taken))
+
+turn : (c : tie.In-loop Inv-loop μ-loop) → c .before .loop .d + 1 ≤ 1020
+unfolding mapOf
+turn c = omega (arith, dart c .1, darts-most (start (c .before) .pre .seeks .shaped .bounds))
+
+-- what is read is what is over it
+read : (c : tie.After-wide Inv-loop μ-loop) → let l = c .before .before in nth (l .loop .up) (l .loop .d + 1) ≡ c .wide .result
+read c = nth-at _ _ (omega arith) ∙ sym (c .wide .ensures)
+
+-- how a start came out
+not-less : (c : tie.After-alike Inv-loop μ-loop) → isLess (tried c .try-start .result) ≡ false
+not-less c = let b = c .before .before in sym (b .below .ensures) ∙ c .before .if3 .left
+
+rank-requires : tie.Need-rank-requires Inv-loop μ-loop
+unfolding mapOf
+rank-requires c κs =
+    let s = c .before .pre .seeks in
+    record { rows = record { shaped = s .shaped; backs = s .backs }; dart = (omega arith, s .taken .bounds .darts-least) }
 
 loop-holds : tie.Need-loop-holds Inv-loop μ-loop
-unfolding mapOf
 loop-holds c =
-    let s = c .before in
+    let s = c .before .before in
     record {
       low = omega arith;
-      blank = s .pre .blank;
-      long-queue = s .pre .long-queue;
+      blank = s .pre .seeks .blank;
+      long-queue = s .pre .seeks .long-queue;
       firm = refl;
-      shown = record { none-less = passed-start _; one = λ e. absurd (true-not-false e refl); none = λ e. passed-start _ };
+      kin = kin-none _;
+      none-less = passed-turn _ (passed-start _) (rw (s .pre .first) (less-irreflexive _));
     }
-
-try-start-requires : tie.Need-try-start-requires Inv-loop μ-loop
-unfolding mapOf
-try-start-requires c κs =
-    let t = c .before .before .before in
-    let s = start (t .before) in
-    let y = t .before .loop .inv in
-    record {
-      shaped = s .pre .shaped;
-      taken = s .pre .taken;
-      backs = s .pre .backs;
-      dart = (y .low, t .loop-test .taken);
-      blank = y .blank;
-      long-queue = y .long-queue;
-      long-word = ap length (y .firm) ∙ s .pre .long-word;
-    }
-
-returns : tie.Need-returns Inv-loop μ-loop
-unfolding mapOf
-returns c =
-    let b = c .before in
-    let below = less-told _ _ _ _ (came b) (b .below .ensures) ∙ c .if1 .taken in
-    sym (own-less _ _ _ (dart b) below)
 
 loop-again : tie.Need-loop-again Inv-loop μ-loop
-unfolding mapOf
 loop-again c =
-    let e = c .before in
-    let b = e .before in
-    let l = at-loop b in
-    let inv = l .loop .inv in
-    let done = tried b .try-start .ensures in
-    let above = less-told _ _ _ _ (came b) (b .below .ensures) ∙ e .if1 .left in
-    record {
-      low = omega arith;
-      blank = done .blank;
-      long-queue = done .long-queue;
-      firm = done .came .best ∙ inv .firm;
-      shown = rw (c .yielded .ensures) (shown-next (inv .shown) (dart b) above _ (same-yields _ _ _ _ _ (came b) refl));
-    }
+    let w = c .before in
+    let l = w .before .before in
+    trying-passed (l .loop .inv) refl (dart (w .before)) (omega (arith, read w, c .if1 .taken))
+
+-- a start may be ranked
+rank-requires-2 : tie.Need-rank-requires-2 Inv-loop μ-loop
+rank-requires-2 c κs =
+    let i = c .before .before in
+    let s = start (i .before) .pre .seeks in
+    record { rows = record { shaped = s .shaped; backs = s .backs }; dart = dart i }
+
+loop-again-2 : tie.Need-loop-again-2 Inv-loop μ-loop
+loop-again-2 c =
+    let r = c .before in
+    let i = not-over r in
+    let l = i .before in
+    trying-left (start l .pre) (l .loop .inv) refl (dart i) (omega (arith, l .before .rank .ensures, r .rank2 .ensures, c .if2 .taken))
+
+try-start-requires : tie.Need-try-start-requires Inv-loop μ-loop
+try-start-requires c κs =
+    let t = not-over (c .before .before .before .before) in
+    let y = t .before .loop .inv in
+    seeks-ready (start (t .before) .pre .seeks) (dart t) (y .blank) (y .long-queue) (y .firm)
+
+returns : tie.Need-returns Inv-loop μ-loop
+returns c =
+    let b = c .before in
+    let t = b .before in
+    let i = in-loop t in
+    let l = i .before in
+    let below = less-told _ _ _ _ (came (given l) (start l .pre) (l .loop .inv) refl (dart i) (t .try-start .ensures)) (b .below .ensures) ∙ c .if3 .taken in
+    sym (own-less _ _ _ (dart i) below)
+
+-- a start that is tied
+level : (c : tie.Then4 Inv-loop μ-loop) → isSame (tried (c .before) .try-start .result) ≡ true
+level c = sym (c .before .alike .ensures) ∙ c .if4 .taken
+
+join-all-requires : tie.Need-join-all-requires Inv-loop μ-loop
+join-all-requires c κs =
+    let e = c .before .before in
+    let t = tried (e .before) in
+    let i = in-loop t in
+    let l = i .before in
+    joins (given l) (start l .pre) (l .loop .inv) refl (dart i) (t .try-start .ensures) (level e)
+
+loop-again-3 : tie.Need-loop-again-3 Inv-loop μ-loop
+loop-again-3 c =
+    let e = c .before .before .before in
+    let t = tried (e .before) in
+    let i = in-loop t in
+    let l = i .before in
+    trying-turn (given l) (start l .pre) (l .loop .inv) refl (dart i) (t .try-start .ensures)
+    (rw (c .join-all .ensures) (joined-kin (given l) (start l .pre) (l .loop .inv) refl (dart i) (t .try-start .ensures) (level e)))
+    (not-less (e .before))
+
+loop-again-4 : tie.Need-loop-again-4 Inv-loop μ-loop
+loop-again-4 c =
+    let a = c .before in
+    let t = tried a in
+    let i = in-loop t in
+    let l = i .before in
+    trying-turn (given l) (start l .pre) (l .loop .inv) refl (dart i) (t .try-start .ensures) (l .loop .inv .kin) (not-less a)
 
 returns-2 : tie.Need-returns-2 Inv-loop μ-loop
 unfolding mapOf
 returns-2 c =
     let l = c .before in
-    shown-done (l .loop .inv .shown) (start l .pre .taken .bounds .darts-least) (c .loop-test .left)
+    let p = start l .pre in
+    let one : IsDart (mapOf (given l)) 1 = (omega arith, p .seeks .taken .bounds .darts-least) in
+    sym (own-yielded _ _ (passed-misses _ (l .loop .inv .none-less) (omega (arith, c .loop-test .left))) 1 one (word-yields _ _ 1 (p .first)))
 
 pub is-least-spec : {M : Type 1} → statement M
 is-least-spec =
@@ -159,12 +244,25 @@ is-least-spec =
     (tie.spec
     Inv-loop
     μ-loop
+    rank-requires
     loop-holds
+    (λ c. omega (arith, turn c))
+    (λ c. omega arith)
+    (λ c. omega (arith, turn c))
+    (λ c. omega (arith, turn c))
+    (λ c κs. search needs)
+    (λ c. omega arith)
+    loop-again
+    rank-requires-2
+    (λ c. omega arith)
+    loop-again-2
     try-start-requires
     (λ c κs. search needs)
     returns
     (λ c κs. search needs)
-    (λ c. let l = at-loop (c .before .before) in omega (arith, darts-most (start l .pre .shaped .bounds)))
+    join-all-requires
     (λ c. omega arith)
-    loop-again
+    loop-again-3
+    (λ c. omega arith)
+    loop-again-4
     returns-2)

@@ -1,137 +1,295 @@
--- `words::least_word::Signing::run` meets its contract: after each start the best word, its least start and their count are those of the
--- starts tried. Assumes nothing.
-use Prim.Native.Nat.{ℕ, suc, _+_, _-_, _*_, _≤_, _<_}
+-- `words::least_word::Signing::run` meets its contract: after each start the rows that are known of the best word, its least start and
+-- the trees are those of the starts so far. Assumes nothing.
+use Prim.Native.Nat.{ℕ, _+_, _-_, _≤_, _<_}
 use mathlib.Core.Path.{_≡_, refl, sym, ap, _∙_}
-use mathlib.Core.Bool.{false}
-use mathlib.Core.List.{List}
+use mathlib.Core.Bool.{true, false, cond, _&&_}
 use native.Mathlib.Omega.{arith}
 use borrow.Author.Needs.{needs}
-use lib.ListN.{length, take, replicate, length-replicate}
-use Rattle.maps.specs.Map.{Map, IsDart}
-use Rattle.maps.specs.Accepted.{Accepted}
+use borrow.Author.Tests.{ltb-true, ltb-false}
+use lib.Dec.{ltb}
+use lib.ListN.{length, length-replicate}
+use Rattle.maps.specs.Least.{nth}
 use Rattle.maps.specs.Given.{Given, lent, mapOf}
+use Rattle.maps.proofs.Least.{Tested, passes, fails, tested, true-not-false, nth-one-more}
 use Rattle.maps.proofs.Accepted.{darts-most}
-use Rattle.words.specs.Words.{word, lesser}
-use Rattle.words.specs.Inside.{sideOf, startedAt, countedAt, Tried, Signs}
+use Rattle.words.specs.Words.{word}
+use Rattle.words.specs.FirstRow.{rankOf}
+use Rattle.words.specs.Inside.{isSame, fewRows}
 use Rattle.words.specs.declared.engine.Side.{Side}
-use Rattle.words.proofs.Starts.{bestAfter, sideAt, startAfter, countAfter, bestAfter-zero, startAfter-zero, countAfter-zero, bestAfter-suc, sideAt-is, startAfter-suc, countAfter-suc, length-bestAfter, countAfter-le, bestAfter-signature, startAfter-start, countAfter-symmetries}
-use Rattle.words.proofs.Sign.{take-replicate, over-front, over-long}
+use Rattle.words.proofs.Order.{both-true}
+use Rattle.words.proofs.Known.{known-start}
+use Rattle.words.proofs.Kin.{kin-none}
+use Rattle.words.proofs.Leading.{Tied, best-start, best-led, best-signature, best-first, best-symmetries}
+use Rattle.words.proofs.FirstRow.{rank-filter}
+use Rattle.words.proofs.Trying.{bestWord, bestWord-none, Trying, Turn, trying-passed, trying-left, some-start, same-rows, same-still, settles, trying-turn, partly-still, trying-spelt}
 use Rattle.words.proofs.least_word.Signing.run.Statement.{statement}
 use Rattle.words.proofs.least_word.Signing.run.Tie as tie
 
--- the starts below d are tried
-record Trying (M : Map) (labels queue held : List ℕ) (s c d : ℕ) : Type 0 where
-  low : 1 ≤ d
-  high : d ≤ M .darts + 1
-  blank : labels ≡ replicate 1020 0
-  long-queue : length queue ≡ 1020
-  long-word : length held ≡ 1020
-  best : take (M .dim * M .darts) held ≡ bestAfter M (d - 1)
-  first : s ≡ startAfter M (d - 1)
-  alike : c ≡ countAfter M (d - 1)
-
--- one start more
-trying-turn : {g : Given} → Accepted (mapOf g) → g .n * g .m ≤ 1020
-    → {labels queue held labels′ queue′ held′ : List ℕ} {s c d s′ c′ : ℕ} {side : Side}
-    → Trying (mapOf g) labels queue held s c d
-    → d ≤ g .m
-    → Tried g d false held labels′ queue′ held′ side
-    → s′ ≡ startedAt side d s
-    → c′ ≡ countedAt side c
-    → Trying (mapOf g) labels′ queue′ held′ s′ c′ (d + 1)
-unfolding mapOf
-trying-turn {g} taken most {held = held} {held′ = held′} {s = s} {c = c} {d = d} {side = side} y below tried started counted =
-    let M = mapOf g in
-    let k = d - 1 in
-    let here : suc k ≡ d = omega (arith, y .low) in
-    let next : d + 1 - 1 ≡ suc k = omega (arith, y .low) in
-    let best = lesser (take (g .n * g .m) held) (word M d) in
-    let is-best : best ≡ bestAfter M (suc k) =
-    ap (λ (b : List ℕ). lesser b (word M d)) (y .best) ∙ ap (λ (e : ℕ). lesser (bestAfter M k) (word M e)) (sym here) ∙ sym (bestAfter-suc M k) in
-    let best-long : length best ≡ g .n * g .m = ap length is-best ∙ length-bestAfter taken (suc k) (omega arith) in
-    let is-side : side ≡ sideAt M k =
-    tried .came .outcome ∙ ap (sideOf (word M d)) (y .best) ∙ ap (λ (e : ℕ). sideOf (word M e) (bestAfter M k)) (sym here) ∙ sym (sideAt-is M k) in
-    record {
-      low = omega arith;
-      high = omega arith;
-      blank = tried .blank;
-      long-queue = tried .long-queue;
-      long-word = ap length (tried .came .best) ∙ over-long best held (omega (arith, best-long, y .long-word)) ∙ y .long-word;
-      best = ap (take (g .n * g .m)) (tried .came .best) ∙ over-front best held (g .n * g .m) best-long ∙ is-best ∙ ap (bestAfter M) (sym next);
-      first = started ∙ rw (is-side, y .first) (ap (λ (e : ℕ). startedAt (sideAt M k) e (startAfter M k)) (sym here) ∙ sym (startAfter-suc M k)) ∙ ap (startAfter M) (sym next);
-      alike = counted ∙ rw (is-side, y .alike) (sym (countAfter-suc M k)) ∙ ap (countAfter M) (sym next);
-    }
-
 abbrev Inv-loop : tie.InvT-loop
-Inv-loop n m table back labels₀ self₀ queue₀ start₀ symmetries₀ d₀ labels self queue start symmetries d =
-    Trying (mapOf (lent n m table)) labels queue (self .word) start symmetries d
+Inv-loop n m table back labels₀ self₀ least queue₀ lead₀ up₀ rows₀ start₀ d₀ labels self queue lead up rows start d =
+    Trying (mapOf (lent n m table)) least labels queue lead up (self .word) start rows d
 
 abbrev μ-loop : tie.MeasureT-loop
-μ-loop n m table back labels₀ self₀ queue₀ start₀ symmetries₀ d₀ labels self queue start symmetries d = m + 1 - d
+μ-loop n m table back labels₀ self₀ least queue₀ lead₀ up₀ rows₀ start₀ d₀ labels self queue lead up rows start d = (m - d) + (m - rows)
 
 -- the places of this proof
 abbrev start : tie.At-loop Inv-loop μ-loop → tie.Start Inv-loop μ-loop
-start c = c .before .before
+start c = c .before .before .before .before
+
+abbrev ranks-of : tie.At-loop Inv-loop μ-loop → tie.After-least-rank Inv-loop μ-loop
+ranks-of c = c .before .before
+
+abbrev not-over : tie.After-rank Inv-loop μ-loop → tie.In-loop Inv-loop μ-loop
+not-over c = c .before .before .before
+
+abbrev ranked : tie.After-try-start Inv-loop μ-loop → tie.Else2 Inv-loop μ-loop
+ranked c = c .before .before .before .before
 
 abbrev in-loop : tie.After-try-start Inv-loop μ-loop → tie.In-loop Inv-loop μ-loop
-in-loop c = c .before .before .before .before
+in-loop c = not-over (ranked c .before)
+
+abbrev tried : tie.After-agrees Inv-loop μ-loop → tie.After-try-start Inv-loop μ-loop
+tried c = c .before
+
+abbrev settled : tie.After-up Inv-loop μ-loop → tie.Else3 Inv-loop μ-loop
+settled c = c .before .before .before
+
+abbrev given : tie.At-loop Inv-loop μ-loop → Given
+given c = let a = start c .args in lent (a .n) (a .m) (a .table .now)
+
+-- the start of a turn is a dart
+start-in : (c : tie.In-loop Inv-loop μ-loop) → c .before .loop .d + 1 ≤ start (c .before) .args .m
+start-in c = omega (arith, c .loop-test .taken)
+
+-- so a turn is one start more
+turn-of : (c : tie.In-loop Inv-loop μ-loop) →
+    let l = c .before in
+    Turn (given l) (ranks-of l .least-rank .result) (l .loop .labels) (l .loop .queue) (l .loop .lead) (l .loop .up) (l .loop .self .word) (l .loop .start) (l .loop .rows) (l .loop .d)
+turn-of c =
+    let l = c .before in
+    record { taken = start l .pre .taken; ranks = ranks-of l .least-rank .ensures; so-far = l .loop .inv; in-map = start-in c }
+
+turn : (c : tie.In-loop Inv-loop μ-loop) → c .before .loop .d + 1 ≤ 1020
+turn c = omega (arith, start-in c, darts-most (start (c .before) .pre .shaped .bounds))
+
+-- what is read is what is over it
+read : (c : tie.After-wide Inv-loop μ-loop) → let l = c .before .before in nth (l .loop .up) (l .loop .d + 1) ≡ c .wide .result
+read c = nth-one-more _ _ ∙ sym (c .wide .ensures)
+
+-- some rows are spelt out at first, as many as there are at most
+few-low : (m : ℕ) → 1 ≤ m → 1 ≤ fewRows m
+unfolding fewRows
+few-low m some = at (tested (ltb m 16))
+  where
+    at : Tested (ltb m 16) → 1 ≤ cond (ltb m 16) m 16
+    at (passes e) = simp e some
+    at (fails e) = simp e (omega arith)
+
+few-high : (m : ℕ) → fewRows m ≤ m
+unfolding fewRows
+few-high m = at (tested (ltb m 16))
+  where
+    at : Tested (ltb m 16) → cond (ltb m 16) m 16 ≤ m
+    at (passes e) = simp e (omega arith)
+    at (fails e) = simp e (omega (arith, ltb-false m 16 e))
 
 loop-holds : tie.Need-loop-holds Inv-loop μ-loop
 unfolding mapOf
 loop-holds c =
-    let s = c .before in
-    let size = s .args .n * s .args .m in
+    let s = c .before .before .before in
+    let m = s .args .m in
+    let few = c .few-rows .ensures in
+    let high : c .few-rows .result ≤ m = rw few (few-high m) in
     record {
-      low = omega arith;
       high = omega arith;
+      rows-low = rw few (few-low m (s .pre .shaped .bounds .darts-least));
+      rows-high = high;
       blank = s .pre .blank;
       long-queue = length-replicate {A = ℕ} 1020 0;
+      long-lead = length-replicate {A = ℕ} 1020 0;
       long-word = ap length (s .pre .above) ∙ length-replicate {A = ℕ} 1020 65535;
-      best = ap (take size) (s .pre .above) ∙ take-replicate size 1020 65535 (s .pre .shaped .bounds .table-most) ∙ sym (bestAfter-zero _);
-      first = sym (startAfter-zero _);
-      alike = sym (countAfter-zero _);
+      partly = rw (bestWord-none _, s .pre .above) (known-start (s .pre .taken) _ high);
+      best = rw (bestWord-none _) (best-start _ _ _ 0 (kin-none _));
+      order = λ no. absurd (omega arith);
     }
+
+loop-again : tie.Need-loop-again Inv-loop μ-loop
+loop-again c =
+    let w = c .before in
+    let l = w .before .before in
+    let s = start l in
+    trying-passed (turn-of (w .before)) (omega (arith, read w, c .if1 .taken))
+
+rank-requires : tie.Need-rank-requires Inv-loop μ-loop
+unfolding mapOf
+rank-requires c κs =
+    let i = c .before .before in
+    let s = start (i .before) in
+    record { rows = record { shaped = s .pre .shaped; backs = s .pre .backs }; dart = (omega arith, start-in i) }
+
+loop-again-2 : tie.Need-loop-again-2 Inv-loop μ-loop
+loop-again-2 c =
+    let r = c .before in
+    let i = not-over r in
+    let l = i .before in
+    let s = start l in
+    trying-left (turn-of i) (λ z. c .if2 .taken (r .rank .ensures ∙ z))
 
 try-start-requires : tie.Need-try-start-requires Inv-loop μ-loop
 unfolding mapOf
 try-start-requires c κs =
-    let t = c .before .before .before in
-    let s = start (t .before) in
-    let y = t .before .loop .inv in
+    let i = not-over (c .before .before .before .before) in
+    let s = start (i .before) in
+    let y = i .before .loop .inv in
     record {
       shaped = s .pre .shaped;
       taken = s .pre .taken;
       backs = s .pre .backs;
-      dart = (y .low, t .loop-test .taken);
+      dart = (omega arith, start-in i);
+      some-rows = y .rows-high;
       blank = y .blank;
       long-queue = y .long-queue;
       long-word = y .long-word;
     }
 
-counted-requires : tie.Need-counted-requires Inv-loop μ-loop
-counted-requires c κs =
-    let l = in-loop (c .before) .before in
-    omega (arith, l .loop .inv .alike, countAfter-le (start l .pre .taken) (l .loop .d - 1), darts-most (start l .pre .shaped .bounds))
+-- the start has no dart over it
+alone : (c : tie.After-try-start Inv-loop μ-loop) → let l = in-loop c .before in nth (l .loop .up) (l .loop .d + 1) ≡ 0
+alone c = let e = ranked c .before .before in read (e .before) ∙ e .if1 .left
 
-loop-again : tie.Need-loop-again Inv-loop μ-loop
-loop-again c =
-    let tried = c .before .before in
-    let l = in-loop tried .before in
+-- and is of the least rank
+is-least : (c : tie.After-try-start Inv-loop μ-loop) →
+    let l = in-loop c .before in
+    rankOf (mapOf (given l)) (l .loop .d + 1) ≡ ranks-of l .least-rank .result
+is-least c = let r = ranked c in sym (r .before .rank .ensures) ∙ r .if2 .left
+
+-- a start that agrees with all rows that are known, where some are not
+open-rows : (c : tie.Then3 Inv-loop μ-loop) →
+    let t = tried (c .before) in
+    let l = in-loop t .before in
+    (isSame (t .try-start .result) ≡ true) × (l .loop .rows < start l .args .m)
+open-rows c =
+    let both = both-true _ _ (sym (c .before .agrees .ensures) ∙ c .if3 .taken) in
+    (both .0, ltb-true _ _ (both .1))
+
+-- otherwise a start that is the same is so in all rows
+all-rows : (rows m : ℕ) (side : Side) → rows ≤ m → (isSame side && ltb rows m) ≡ false → isSame side ≡ true → rows ≡ m
+all-rows rows m side most not-open is = at (tested (ltb rows m))
+  where
+    at : Tested (ltb rows m) → rows ≡ m
+    at (passes e) = absurd (let no : true ≡ false = rw (is, e) at not-open in true-not-false refl no)
+    at (fails e) = omega (arith, ltb-false rows m e)
+
+decided : (c : tie.Else3 Inv-loop μ-loop) →
+    let t = tried (c .before) in
+    let l = in-loop t .before in
+    isSame (t .try-start .result) ≡ true → l .loop .rows ≡ start l .args .m
+unfolding mapOf
+decided c =
+    let l = in-loop (tried (c .before)) .before in
+    all-rows _ _ _ (l .loop .inv .rows-high) (sym (c .before .agrees .ensures) ∙ c .if3 .left)
+
+spell-out-requires : tie.Need-spell-out-requires Inv-loop μ-loop
+unfolding mapOf
+spell-out-requires c κs =
+    let e = c .before .before .before in
+    let t = tried (e .before) in
+    let i = in-loop t in
+    let l = i .before in
     let s = start l in
-    trying-turn (s .pre .taken) (s .pre .shaped .bounds .table-most) (l .loop .inv) (omega arith) (tried .try-start .ensures) (c .before .started .ensures) (c .counted .ensures)
+    let y = l .loop .inv in
+    let done = t .try-start .ensures in
+    let is = open-rows e .0 in
+    let there = some-start (turn-of i) done
+    (same-rows (turn-of i) done is) in
+    record {
+      ready = record {
+        shaped = s .pre .shaped;
+        taken = s .pre .taken;
+        backs = s .pre .backs;
+        dart = there;
+        some-rows = y .rows-high;
+        blank = done .blank;
+        long-queue = y .long-lead;
+        long-word = ap length (same-still (turn-of i) done is) ∙ y .long-word;
+      };
+      partly = partly-still (turn-of i) done is;
+    }
+
+loop-again-3 : tie.Need-loop-again-3 Inv-loop μ-loop
+loop-again-3 c =
+    let e = c .before .before .before .before in
+    let t = tried (e .before) in
+    let i = in-loop t in
+    let l = i .before in
+    let s = start l in
+    trying-spelt (turn-of i) (t .try-start .ensures) (open-rows e .0) (open-rows e .1) (c .spell-out .ensures)
+
+settle-requires : tie.Need-settle-requires Inv-loop μ-loop
+settle-requires c κs =
+    let e = settled c in
+    let t = tried (e .before) in
+    let i = in-loop t in
+    let l = i .before in
+    let s = start l in
+    record { few = darts-most (s .pre .shaped .bounds); long-queue = t .try-start .ensures .long-queue; long-lead = l .loop .inv .long-lead; joins = settles (turn-of i) (t .try-start .ensures) (decided e) }
+
+loop-again-4 : tie.Need-loop-again-4 Inv-loop μ-loop
+loop-again-4 c =
+    let e = settled (c .before) in
+    let t = tried (e .before) in
+    let i = in-loop t in
+    let l = i .before in
+    let s = start l in
+    trying-turn (turn-of i) (t .try-start .ensures) (alone t) (is-least t) (decided e) (c .settle .ensures)
+
+-- all starts are tried, passed over or left out: one leads
+led : (c : tie.After-loop Inv-loop μ-loop) →
+    let l = c .before in
+    Tied (mapOf (given l)) (l .loop .start) (bestWord (mapOf (given l)) (l .loop .start))
+unfolding mapOf
+led c =
+    let l = c .before in
+    let taken = start l .pre .taken in
+    best-led taken (rank-filter taken _ (ranks-of l .least-rank .ensures)) (l .loop .inv .best) (omega (arith, c .loop-test .left))
+
+spell-out-requires-2 : tie.Need-spell-out-requires-2 Inv-loop μ-loop
+unfolding mapOf
+spell-out-requires-2 c κs =
+    let e = c .before .before .before in
+    let l = e .before in
+    let s = start l in
+    let y = l .loop .inv in
+    let t = led e in
+    record {
+      ready = record {
+        shaped = s .pre .shaped;
+        taken = s .pre .taken;
+        backs = s .pre .backs;
+        dart = t .is-first .dart;
+        some-rows = y .rows-high;
+        blank = y .blank;
+        long-queue = y .long-queue;
+        long-word = y .long-word;
+      };
+      partly = rw (← t .is-word) (y .partly);
+    }
 
 returns : tie.Need-returns Inv-loop μ-loop
 unfolding mapOf
 returns c =
-    let s = start (c .before) in
-    let y = c .before .loop .inv in
+    let o = c .before .before in
+    let e = o .before .before .before .before in
+    let l = e .before in
+    let s = start l in
+    let y = l .loop .inv in
     let taken = s .pre .taken in
-    let all : c .before .loop .d - 1 ≡ s .args .m = omega (arith, y .high, y .low, c .loop-test .left) in
+    let filter = rank-filter taken _ (ranks-of l .least-rank .ensures) in
+    let all : s .args .m < l .loop .d + 1 = omega (arith, e .loop-test .left) in
     record {
-      long = y .long-word;
-      least-word = y .best ∙ ap (bestAfter _) all ∙ bestAfter-signature taken;
-      first = y .first ∙ ap (startAfter _) all ∙ startAfter-start taken;
-      alike = y .alike ∙ ap (countAfter _) all ∙ countAfter-symmetries taken;
+      long = o .spell-out2 .ensures .long-word;
+      least-word = o .spell-out2 .ensures .whole-word ∙ sym (led e .is-word) ∙ best-signature taken filter (y .best) all;
+      first = best-first taken filter (y .best) all;
+      alike = c .tree-size .ensures ∙ best-symmetries taken filter (y .best) all;
     }
 
 pub run-spec : {M : Type 1} → statement M
@@ -140,11 +298,26 @@ run-spec =
     (tie.spec
     Inv-loop
     μ-loop
-    loop-holds
-    try-start-requires
+    (λ c κs. let s = c .before in record { shaped = s .pre .shaped; backs = s .pre .backs })
     (λ c κs. search needs)
-    counted-requires
-    (λ c. let l = in-loop (c .before .before) .before in omega (arith, darts-most (start l .pre .shaped .bounds)))
+    loop-holds
+    (λ c. omega (arith, turn c))
+    (λ c. omega (arith, turn c))
+    (λ c. omega (arith, turn c))
+    (λ c κs. search needs)
     (λ c. omega arith)
     loop-again
+    rank-requires
+    (λ c. omega arith)
+    loop-again-2
+    try-start-requires
+    (λ c κs. search needs)
+    spell-out-requires
+    (λ c. omega (arith, open-rows (c .before .before .before .before) .1))
+    loop-again-3
+    settle-requires
+    (λ c. omega arith)
+    loop-again-4
+    spell-out-requires-2
+    (λ c κs. let s = start (c .before .before .before .before .before .before) in record { forest = c .before .before .before .before .before .before .loop .inv .best .kin .forest; few = darts-most (s .pre .shaped .bounds) })
     returns)

@@ -8,7 +8,7 @@
 --     Serves, Served                 a dart is about to be served, and is
 --     Starts, Reaches                the labelling from dart 1 may start, and has come to its end
 --     notLabelled m labels           the least dart that has no label, or 0
---     Forgets                        the labels given can be forgotten
+--     Clears                         the labels of the first m darts can be cleared, and then there is none
 -- Assumes nothing.
 use Prim.Native.Nat.{ℕ, _-_, _≤_, _<_}
 use mathlib.Core.Path.{_≡_}
@@ -77,7 +77,8 @@ pub record Reaches (g : Given) (labels queue : List ℕ) (given : ℕ) : Type 0 
 unfoldable pub notLabelled : ℕ → List ℕ → ℕ
 notLabelled m labels = least m (λ d. eqb (getD labels (d - 1) 0) 0)
 
--- the labels of a queue can be forgotten: each of its darts has a place in the array
-pub record Forgets (labels queue : List ℕ) (given : ℕ) : Type 0 where
-  pub holds : Holds labels queue given (take given queue)
-  pub inside : (k : ℕ) → 1 ≤ k → k ≤ given → (1 ≤ nth (take given queue) k) × (nth (take given queue) k ≤ 1020)
+-- only the first m darts have labels
+pub record Clears (labels : List ℕ) (m : ℕ) : Type 0 where
+  pub few : m ≤ 1020
+  pub long : length labels ≡ 1020
+  pub beyond : (i : ℕ) → m ≤ i → i < 1020 → getD labels i 0 ≡ 0

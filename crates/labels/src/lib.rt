@@ -6,7 +6,7 @@ ghost use Rattle.maps.specs.Given.{lent, mapOf};
 ghost use Rattle.maps.specs.Answer.{judgedOf};
 ghost use Rattle.labels.specs.Queue.{visit};
 ghost use Rattle.labels.specs.Judging.{notReached, checkAnswer, Judges};
-ghost use Rattle.labels.specs.Inside.{Holds, Meets, Sewn, Serves, Served, Starts, Reaches, notLabelled, Forgets};
+ghost use Rattle.labels.specs.Inside.{Holds, Meets, Sewn, Serves, Served, Starts, Reaches, notLabelled, Clears};
 use maps::Judged;
 use maps::Output;
 
@@ -103,15 +103,15 @@ fn not_labelled(m: usize, labels: &[u16; 1020]) -> usize
     0
 }
 
-// The labels given are forgotten.
-fn forget(labels: &mut [u16; 1020], queue: &[u16; 1020], given: usize)
-    requires { ⌜ Forgets (now labels) (now queue) given ⌝ }
+// The labels of the first m darts are cleared: no other dart can have one.
+fn clear(labels: &mut [u16; 1020], m: usize)
+    requires { ⌜ Clears (now labels) m ⌝ }
     ensures { λ _. ⌜ now (labels .exit) ≡ replicate 1020 0 ⌝ }
 {
-    let mut k = 0;
-    while k < given {
-        labels[wide(queue[k]) - 1] = 0;
-        k += 1;
+    let mut i = 0;
+    while i < m {
+        labels[i] = 0;
+        i += 1;
     }
 }
 
@@ -127,10 +127,9 @@ fn not_reached(
     ensures { λ r. ⌜ (r ≡ notReached (mapOf (lent n m (now (table .entry))))) × (now (labels .exit) ≡ replicate 1020 0) ⌝ }
 {
     let mut queue = [0u16; 1020];
-    let reached = reach(n, m, table, back, labels, &mut queue);
+    reach(n, m, table, back, labels, &mut queue);
     let place = not_labelled(m, labels);
-    let given = reached.given;
-    forget(labels, &queue, given);
+    clear(labels, m);
     place
 }
 

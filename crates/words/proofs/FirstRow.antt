@@ -3,14 +3,17 @@
 --     first-number               the first number of a word
 --     rank-less                  a start of a lesser rank has a lesser word
 --     rank-filter                the starts of the least rank may be kept alone
+--     over-passes, rank-passes, passed-by, not-passed
+--                                when a start is passed over
 -- Assumes nothing.
 use Prim.Native.Nat.{ℕ, suc, _+_, _*_, _≤_, _<_}
 use mathlib.Core.Path.{_≡_, refl, sym, ap, _∙_}
 use mathlib.Core.Bool.{Bool, true, false, cond, _||_}
+use mathlib.Core.Logic.{_⊎_, inl, inr}
 use mathlib.Core.List.{List, [], _∷_, _++_}
 use native.Mathlib.Omega.{arith}
 use native.Mathlib.Nat.{zero-mul, mul-le-mul-right}
-use borrow.Author.Tests.{eqb-true, eqb-false, eq-eqb, ltb-true, ltb-false}
+use borrow.Author.Tests.{eqb-true, eqb-false, eq-eqb, ltb-true, ltb-false, lt-ltb}
 use lib.Dec.{eqb, ltb}
 use lib.ListN.{length, getD, take}
 use lib.Seq.{take-suc}
@@ -23,7 +26,7 @@ use Rattle.maps.proofs.Map.{sewn-low, back-forth}
 use Rattle.labels.specs.Queue.{labelIn, visit, tried, served, labelling}
 use Rattle.labels.proofs.Queue.{labelIn-nil, labelIn-snoc-new, labelIn-snoc-other, Grown, grown-label, grown-trans, visit-nothing, visit-old, visit-new, tried-zero, tried-suc, tried-grown, serve-tried, served-zero, served-suc, labelling-grown, labelling-first, labelling-start, queue-zero, labelling-queue, nth-one}
 use Rattle.words.specs.Words.{word, less}
-use Rattle.words.specs.FirstRow.{firstLabel, rankOf, LeastRank}
+use Rattle.words.specs.FirstRow.{firstLabel, rankOf, LeastRank, passesOver}
 use Rattle.words.proofs.Words.{length-word, nth-word}
 use Rattle.labels.proofs.Reached.{labelling-numbers}
 use Rattle.words.proofs.Order.{less-irreflexive}
@@ -208,3 +211,31 @@ module _ {M : Map} (a : Accepted M) where
             let above : r < rankOf M d = omega (arith, l .none-less d dart, eqb-false (rankOf M d) r not-kept) in
             (l .start, l .dart, eq-eqb (rankOf M (l .start)) r (l .reached), rank-less a (l .start) d (l .dart) dart (rw (l .reached) above));
       }
+
+module _ (M : Map) (up : List ℕ) (r d : ℕ) where
+  -- a start is passed over that has a dart over it, and any other by its rank
+  pub over-passes : 0 < nth up d → true ≡ passesOver M up r d
+  unfolding passesOver
+  over-passes covered = simp (lt-ltb 0 (nth up d) covered)
+
+  pub rank-passes : nth up d ≡ 0 → ltb r (rankOf M d) ≡ passesOver M up r d
+  unfolding passesOver
+  rank-passes none = simp none
+
+  pub passed-by : passesOver M up r d ≡ true → (0 < nth up d) ⊎ (r < rankOf M d)
+  unfolding passesOver
+  passed-by is = at (tested (ltb 0 (nth up d)))
+    where
+      at : Tested (ltb 0 (nth up d)) → (0 < nth up d) ⊎ (r < rankOf M d)
+      at (passes e) = inl (ltb-true 0 (nth up d) e)
+      at (fails e) = let rest : ltb r (rankOf M d) ≡ true = rw e at is in inr (ltb-true r (rankOf M d) rest)
+
+  pub not-passed : passesOver M up r d ≡ false → (nth up d ≡ 0) × (rankOf M d ≤ r)
+  unfolding passesOver
+  not-passed is = at (tested (ltb 0 (nth up d)))
+    where
+      at : Tested (ltb 0 (nth up d)) → (nth up d ≡ 0) × (rankOf M d ≤ r)
+      at (passes e) = absurd (let no : true ≡ false = rw e at is in true-not-false refl no)
+      at (fails e) =
+          let rest : ltb r (rankOf M d) ≡ false = rw e at is in
+          (omega (arith, ltb-false 0 (nth up d) e), omega (arith, ltb-false r (rankOf M d) rest))

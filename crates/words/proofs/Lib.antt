@@ -9,6 +9,7 @@ pub mod Lexicographic
 pub mod Starts
 pub mod Forest
 pub mod Standing
+pub mod Forgetting
 pub mod Racing
 pub mod Sign
 pub mod Theorems

@@ -7,8 +7,11 @@
 --     length-front, getD-front, front-whole
 --                                the first rows of a word
 --     Serving, serving-start     k darts are served, and the numbers of their rows judged
---     Rowing, rowing-start, rowing-turn, rowing-left, rowing-end
---                                of the next dart some sewings are met, and as many numbers judged
+--     Rowing                     of the next dart some sewings are met, and as many numbers judged
+--     DartTurn, turn-read, turn-is-dart, turn-meets, rowing-start, rowing-end
+--                                the next dart is served: its row begins, and ends
+--     NumberTurn, row-place, row-on, row-meets, row-once, row-holds, rowing-turn, rowing-left
+--                                of its row the next number is judged
 --     TriedWhole, tried-whole    what trying a start leaves whose rows are all judged
 -- Assumes nothing.
 use Prim.Native.Nat.{ℕ, suc, _+_, _-_, _*_, _≤_, _<_}
@@ -29,10 +32,10 @@ use Rattle.maps.specs.Given.{Given, mapOf, placeOf}
 use Rattle.maps.proofs.Least.{Tested, passes, fails, tested, nth-one-more, nth-suc}
 use Rattle.maps.proofs.Accepted.{darts-most}
 use Rattle.labels.specs.Queue.{labelIn, visit, tried, served, labelling}
-use Rattle.labels.specs.Inside.{DartsOnce, Holds}
+use Rattle.labels.specs.Inside.{DartsOnce, Holds, Meets}
 use Rattle.labels.proofs.Queue.{labelIn-nil, labelIn-le, visit-new, visit-labels, served-zero, served-ahead, Grown, grown-trans, grown-label, tried-zero, tried-suc, tried-grown, tried-queue, serve-tried, queue-zero, served-suc, served-next, served-queue, labelling-grown, labelling-queue}
 use Rattle.labels.proofs.Reached.{labelling-numbers}
-use Rattle.labels.proofs.Inside.{holds-same, holds-length, holds-blank, holds-new}
+use Rattle.labels.proofs.Inside.{holds-same, holds-length, holds-blank, holds-new, holds-meets}
 use Rattle.words.specs.Words.{word, lesser}
 use Rattle.words.specs.Sign.{over}
 use Rattle.words.specs.Inside.{sideOf, Met, Weighed, leavesAt, front, Tried}
@@ -159,91 +162,138 @@ module _ {M : Map} (a : Accepted M) (d : ℕ) (dart : IsDart M d) where
         stands = standing-start (front M d rows) held firm;
       }
 
-  module _ {rows : ℕ} (most : rows ≤ M .darts) {firm : Bool} {held₀ labels queue held : List ℕ} {given : ℕ} {side : Side} {p k : ℕ} (s : Serving M d rows firm held₀ labels queue held given side p k) (turn : k < rows) where
-    in-map : k < M .darts
-    in-map = omega arith
+-- the next dart's turn: it may be served
+pub record DartTurn (M : Map) (d rows : ℕ) (firm : Bool) (held₀ labels queue held : List ℕ) (given : ℕ) (side : Side) (p k : ℕ) : Type 0 where
+  pub taken : Accepted M
+  pub dart : IsDart M d
+  pub most : rows ≤ M .darts
+  pub fits : length (front M d rows) ≤ length held₀
+  pub so-far : Serving M d rows firm held₀ labels queue held given side p k
+  pub turn : k < rows
 
-    -- the dart whose turn it is stands in the array
-    ahead : k < given
-    ahead = omega (arith, served-ahead M (a .open-map .to-darts) d dart k (rw (labelling-numbers a d dart .long) in-map), holds-length (s .holds))
+module _ {M : Map} {d rows : ℕ} {firm : Bool} {held₀ labels queue held : List ℕ} {given : ℕ} {side : Side} {p k : ℕ} (t : DartTurn M d rows firm held₀ labels queue held given side p k) where
+  s : Serving M d rows firm held₀ labels queue held given side p k
+  s = t .so-far
 
-    pub turn-read : getD queue k 0 ≡ turnOf M d k
-    turn-read =
-        sym (getD-take given queue k 0 ahead)
-        ∙ ap (λ (l : List ℕ). getD l k 0) (s .holds .so-far)
-        ∙ sym (nth-suc (served M d k) k)
+  in-map : k < M .darts
+  in-map = omega (arith, t .turn, t .most)
 
-    pub turn-good : DartsOnce M (served M d k)
-    turn-good = served-queue M (a .open-map .to-darts) d dart k
+  -- the dart whose turn it is stands in the array
+  ahead : k < given
+  ahead =
+      omega
+      (arith, served-ahead M (t .taken .open-map .to-darts) d (t .dart) k (rw (labelling-numbers (t .taken) d (t .dart) .long) in-map), holds-length (s .holds))
 
-    -- β0 of it is met, and its row begins
-    pub rowing-start : {labels′ queue′ : List ℕ} {e : ℕ} {r : Labelling} → e ≡ sew M 0 (turnOf M d k) → Met (take given queue) e labels′ queue′ r → Rowing M d rows k firm held labels′ queue′ held (r .given) side p side p 0
-    rowing-start {e = e} is met =
-        record {
-          high = omega arith;
-          place = omega arith;
-          holds = met-holds (s .holds) met (rowOf M d k 0) (tried-zero M _ (turnOf M d k) ∙ ap (visit (served M d k)) (sym is));
-          stands = λ best fits t. t;
-        }
+  pub turn-read : getD queue k 0 ≡ turnOf M d k
+  turn-read =
+      sym (getD-take given queue k 0 ahead)
+      ∙ ap (λ (l : List ℕ). getD l k 0) (s .holds .so-far)
+      ∙ sym (nth-suc (served M d k) k)
 
-    -- the row ends, and one dart more is served
-    pub rowing-end : {labels′ queue′ held′ : List ℕ} {given′ : ℕ} {side′ : Side} {p′ i : ℕ} → Rowing M d rows k firm held labels′ queue′ held′ given′ side p side′ p′ i → length (front M d rows) ≤ length held₀ → M .dim ≤ i → Serving M d rows firm held₀ labels′ queue′ held′ given′ side′ p′ (k + 1)
-    rowing-end {i = i} w fits done =
-        let all : i ≡ M .dim = omega (arith, w .high) in
-        record {
-          high = omega arith;
-          place = w .place ∙ ap (λ (j : ℕ). p + j) all ∙ ap (λ (j : ℕ). j + M .dim) (s .place) ∙ sym (suc-mul k (M .dim)) ∙ ap (λ (j : ℕ). j * M .dim) (sym (add-one k));
-          holds = holds-same (w .holds) (ap (served M d) (add-one k) ∙ sym (row-served M d k) ∙ ap (rowOf M d k) (sym all));
-          stands = w .stands held₀ fits (s .stands);
-        }
+  pub turn-is-dart : IsDart M (turnOf M d k)
+  turn-is-dart = turn-dart (t .taken) d (t .dart) k in-map
 
-    module _ {labels₁ queue₁ held₁ : List ℕ} {given₁ : ℕ} {side₁ : Side} {p₁ i : ℕ} (w : Rowing M d rows k firm held labels₁ queue₁ held₁ given₁ side p side₁ p₁ i) (below : i < M .dim) where
-      -- the place of the number that is judged next
-      here : p₁ ≡ k * M .dim + i
-      here = w .place ∙ ap (λ (j : ℕ). j + i) (s .place)
+  -- what a sewing of it leads to may be met
+  pub turn-meets : (e : ℕ) → e ≡ sew M 0 (turnOf M d k) → Meets labels queue given e
+  turn-meets e is =
+      let to-darts = t .taken .open-map .to-darts in
+      holds-meets (s .holds) (served-queue M to-darts d (t .dart) k) (darts-most (t .taken .bounds)) e (rw is (to-darts 0 (turnOf M d k)))
 
-      in-rows : p₁ < rows * M .dim
-      in-rows =
-          let row : suc k * M .dim ≤ rows * M .dim = mul-le-mul-right (M .dim) turn in
-          omega (arith, here, suc-mul k (M .dim))
+  -- β0 of it is met, and its row begins
+  pub rowing-start : {labels′ queue′ : List ℕ} {e : ℕ} {r : Labelling} → e ≡ sew M 0 (turnOf M d k) → Met (take given queue) e labels′ queue′ r → Rowing M d rows k firm held labels′ queue′ held (r .given) side p side p 0
+  rowing-start {e = e} is met =
+      record {
+        high = omega arith;
+        place = omega arith;
+        holds = met-holds (s .holds) met (rowOf M d k 0) (tried-zero M _ (turnOf M d k) ∙ ap (visit (served M d k)) (sym is));
+        stands = λ best fits t. t;
+      }
 
-      pub row-inside : p₁ < length (front M d rows)
-      row-inside = omega (arith, in-rows, length-front a d dart rows most)
+  -- the row ends, and one dart more is served
+  pub rowing-end : {labels′ queue′ held′ : List ℕ} {given′ : ℕ} {side′ : Side} {p′ i : ℕ} → Rowing M d rows k firm held labels′ queue′ held′ given′ side p side′ p′ i → M .dim ≤ i → Serving M d rows firm held₀ labels′ queue′ held′ given′ side′ p′ (k + 1)
+  rowing-end {i = i} w done =
+      let all : i ≡ M .dim = omega (arith, w .high) in
+      record {
+        high = omega (arith, t .turn);
+        place = w .place ∙ ap (λ (j : ℕ). p + j) all ∙ ap (λ (j : ℕ). j + M .dim) (s .place) ∙ sym (suc-mul k (M .dim)) ∙ ap (λ (j : ℕ). j * M .dim) (sym (add-one k));
+        holds = holds-same (w .holds) (ap (served M d) (add-one k) ∙ sym (row-served M d k) ∙ ap (rowOf M d k) (sym all));
+        stands = w .stands held₀ (t .fits) (s .stands);
+      }
 
-      -- a start that is run on was not left
-      pub row-on : length (front M d rows) ≤ length held₀ → leavesAt firm side₁ ≡ false
-      row-on fits = w .stands held₀ fits (s .stands) .on
+-- the next number's turn: one more sewing of that dart may be met
+pub record NumberTurn (M : Map) (d rows : ℕ) (firm : Bool) (held₀ labels queue held : List ℕ) (given : ℕ) (side : Side) (p k : ℕ) (labels₁ queue₁ held₁ : List ℕ) (given₁ : ℕ) (side₁ : Side) (p₁ i : ℕ) : Type 0 where
+  pub dart-turn : DartTurn M d rows firm held₀ labels queue held given side p k
+  pub so-far : Rowing M d rows k firm held labels₁ queue₁ held₁ given₁ side p side₁ p₁ i
+  pub turn : i < M .dim
 
-      module _ {labels′ queue′ : List ℕ} {e : ℕ} {r : Labelling} (is : e ≡ sew M (suc i) (turnOf M d k)) (met : Met (take given₁ queue₁) e labels′ queue′ r) where
-        next : rowOf M d k (suc i) ≡ visit (rowOf M d k i) e
-        next = tried-suc M _ (turnOf M d k) i ∙ ap (visit (rowOf M d k i)) (sym is)
+module _ {M : Map} {d rows : ℕ} {firm : Bool} {held₀ labels queue held : List ℕ} {given : ℕ} {side : Side} {p k : ℕ} {labels₁ queue₁ held₁ : List ℕ} {given₁ : ℕ} {side₁ : Side} {p₁ i : ℕ} (n : NumberTurn M d rows firm held₀ labels queue held given side p k labels₁ queue₁ held₁ given₁ side₁ p₁ i) where
+  t : DartTurn M d rows firm held₀ labels queue held given side p k
+  t = n .dart-turn
 
-        pub row-holds : Holds labels′ queue′ (r .given) (rowOf M d k (suc i))
-        row-holds = met-holds (w .holds) met (rowOf M d k (suc i)) next
+  w : Rowing M d rows k firm held labels₁ queue₁ held₁ given₁ side p side₁ p₁ i
+  w = n .so-far
 
-        -- the number that is judged is the word's
-        pub row-judged : r .label ≡ getD (front M d rows) p₁ 0
-        row-judged =
-            met .number
-            ∙ ap (λ (l : List ℕ). labelIn (visit l e) e) (w .holds .so-far)
-            ∙ ap (λ (l : List ℕ). labelIn l e) (sym next)
-            ∙ ap (labelIn (rowOf M d k (suc i))) is
-            ∙ row-number a d dart k in-map i below
-            ∙ ap (λ (j : ℕ). getD (word M d) j 0) (sym here)
-            ∙ sym (getD-front a d dart rows most p₁ in-rows)
+  stood : Standing (front M d rows) held₀ held₁ firm side₁ p₁
+  stood = w .stands held₀ (t .fits) (t .so-far .stands)
 
-        module _ {held′ : List ℕ} {side′ : Side} (weighed : Weighed held₁ held′ p₁ (r .label) side₁ firm side′) where
-          pub rowing-turn : leavesAt firm side′ ≡ false → Rowing M d rows k firm held labels′ queue′ held′ (r .given) side p side′ (p₁ + 1) (i + 1)
-          rowing-turn on =
-              record {
-                high = omega arith;
-                place = omega (arith, w .place);
-                holds = rw (add-one i) row-holds;
-                stands = λ best fits t. standing-turn (w .stands best fits t) fits row-inside (r .label) row-judged weighed on;
-              }
+  -- the place of the number that is judged next
+  here : p₁ ≡ k * M .dim + i
+  here = w .place ∙ ap (λ (j : ℕ). j + i) (t .so-far .place)
 
-          pub rowing-left : length (front M d rows) ≤ length held₀ → leavesAt firm side′ ≡ true → Ended (front M d rows) held₀ held′ firm side′
-          rowing-left fits gone = standing-left (w .stands held₀ fits (s .stands)) fits row-inside (r .label) row-judged weighed gone
+  in-rows : p₁ < rows * M .dim
+  in-rows =
+      let row : suc k * M .dim ≤ rows * M .dim = mul-le-mul-right (M .dim) (t .turn) in
+      omega (arith, here, suc-mul k (M .dim), n .turn)
+
+  row-inside : p₁ < length (front M d rows)
+  row-inside = omega (arith, in-rows, length-front (t .taken) d (t .dart) rows (t .most))
+
+  pub row-place : p₁ < length held₀
+  row-place = omega (arith, row-inside, t .fits)
+
+  -- a start that is run on was not left
+  pub row-on : leavesAt firm side₁ ≡ false
+  row-on = stood .on
+
+  -- what the sewing leads to may be met
+  pub row-meets : (e : ℕ) → e ≡ sew M (suc i) (turnOf M d k) → Meets labels₁ queue₁ given₁ e
+  row-meets e is =
+      holds-meets (w .holds) (row-good (t .taken) d (t .dart) k (in-map t) i) (darts-most (t .taken .bounds)) e
+      (rw is (t .taken .open-map .to-darts (suc i) (turnOf M d k)))
+
+  pub row-once : DartsOnce M (rowOf M d k (suc i))
+  row-once = row-good (t .taken) d (t .dart) k (in-map t) (suc i)
+
+  module _ {labels′ queue′ : List ℕ} {e : ℕ} {r : Labelling} (is : e ≡ sew M (suc i) (turnOf M d k)) (met : Met (take given₁ queue₁) e labels′ queue′ r) where
+    next : rowOf M d k (suc i) ≡ visit (rowOf M d k i) e
+    next = tried-suc M _ (turnOf M d k) i ∙ ap (visit (rowOf M d k i)) (sym is)
+
+    pub row-holds : Holds labels′ queue′ (r .given) (rowOf M d k (suc i))
+    row-holds = met-holds (w .holds) met (rowOf M d k (suc i)) next
+
+    -- the number that is judged is the word's
+    row-judged : r .label ≡ getD (front M d rows) p₁ 0
+    row-judged =
+        met .number
+        ∙ ap (λ (l : List ℕ). labelIn (visit l e) e) (w .holds .so-far)
+        ∙ ap (λ (l : List ℕ). labelIn l e) (sym next)
+        ∙ ap (labelIn (rowOf M d k (suc i))) is
+        ∙ row-number (t .taken) d (t .dart) k (in-map t) i (n .turn)
+        ∙ ap (λ (j : ℕ). getD (word M d) j 0) (sym here)
+        ∙ sym (getD-front (t .taken) d (t .dart) rows (t .most) p₁ in-rows)
+
+    module _ {held′ : List ℕ} {side′ : Side} (weighed : Weighed held₁ held′ p₁ (r .label) side₁ firm side′) where
+      pub rowing-turn : leavesAt firm side′ ≡ false → Rowing M d rows k firm held labels′ queue′ held′ (r .given) side p side′ (p₁ + 1) (i + 1)
+      rowing-turn on =
+          record {
+            high = omega (arith, n .turn);
+            place = omega (arith, w .place);
+            holds = rw (add-one i) row-holds;
+            stands = λ best fits t. standing-turn (w .stands best fits t) fits row-inside (r .label) row-judged weighed on;
+          }
+
+      pub rowing-left : leavesAt firm side′ ≡ true → Ended (front M d rows) held₀ held′ firm side′
+      rowing-left gone = standing-left stood (t .fits) row-inside (r .label) row-judged weighed gone
 
 -- a start whose rows were all tried: how its word comes out
 pub record TriedWhole (g : Given) (d : ℕ) (firm : Bool) (held labels′ queue′ held′ : List ℕ) (side : Side) : Type 0 where

@@ -1,17 +1,18 @@
 -- What `Signing::run` keeps from start to start, and how a start changes it.
 --     kept, bestWord               the starts that are tried at all; the best word by its start
---     Trying                       the starts up to d are tried, passed over or left out
+--     Trying                       the starts up to d are tried or passed over
 --     Turn                         and one more is there
---     trying-passed, trying-left   it is passed over, or left out
+--     trying-passed                it is passed over
 --     some-start, same-rows, same-still, partly-still
 --                                  it is tried, and is the same as far as is known
 --     settles, trying-turn         it is settled
 --     trying-spelt                 the best word is spelt out, so that it can be tried again
 -- Assumes nothing.
-use Prim.Native.Nat.{ℕ, _+_, _-_, _*_, _≤_, _<_}
+use Prim.Native.Nat.{ℕ, _+_, _*_, _≤_, _<_}
 use mathlib.Core.Path.{_≡_, refl, sym, ap, _∙_}
 use mathlib.Core.Bool.{Bool, true, false, cond}
 use mathlib.Core.List.{List}
+use mathlib.Core.Logic.{_⊎_, inl, inr}
 use native.Mathlib.Omega.{arith}
 use native.Mathlib.Nat.{mul-comm, mul-le-mul-right, one-mul}
 use borrow.Author.Tests.{eq-eqb, ne-eqb}
@@ -28,7 +29,7 @@ use Rattle.labels.specs.Queue.{labelling}
 use Rattle.words.specs.Words.{word, less, lesser}
 use Rattle.words.specs.Sign.{over}
 use Rattle.words.specs.Forest.{joinedAll, JoinsAll}
-use Rattle.words.specs.FirstRow.{rankOf, LeastRank}
+use Rattle.words.specs.FirstRow.{rankOf, LeastRank, passesOver}
 use Rattle.words.specs.Inside.{sideOf, isLess, isSame, leavesAt, front, startedAt, Tried, Settled, Known, SpeltOut}
 use Rattle.words.specs.declared.engine.Side.{Side}
 use Rattle.words.proofs.Words.{length-word}
@@ -39,7 +40,7 @@ use Rattle.words.proofs.Sign.{take-replicate, over-front, over-long}
 use Rattle.words.proofs.Known.{less-front, known-over, known-whole}
 use Rattle.words.proofs.Kin.{Alike, queue-first, tied-alike, alike-joins}
 use Rattle.words.proofs.Leading.{Filter, Held, nothing, leads, Best, best-long, best-passed, best-left, best-less, best-tied, best-same, best-greater}
-use Rattle.words.proofs.FirstRow.{rank-filter}
+use Rattle.words.proofs.FirstRow.{rank-filter, passed-by}
 
 -- the starts that are kept: those of the least rank r
 abbrev pub kept : Map → ℕ → ℕ → Bool
@@ -57,7 +58,7 @@ pub bestWord-some : (M : Map) (s : ℕ) → 1 ≤ s → bestWord M s ≡ word M 
 unfolding bestWord
 bestWord-some M s low = simp (ne-eqb s 0 (λ z. omega arith))
 
--- the starts up to d are tried, passed over or left out; of the best word so many rows are held, and where they are all, its queue
+-- the starts up to d are tried or passed over; of the best word so many rows are held, and where they are all, its queue
 -- is in `lead`
 pub record Trying (M : Map) (r : ℕ) (labels queue lead up held : List ℕ) (s rows d : ℕ) : Type 0 where
   pub high : d ≤ M .darts
@@ -119,12 +120,12 @@ module _ {g : Given} {r : ℕ} {labels queue lead up held : List ℕ} {s rows d 
       }
 
   -- the start is passed over
-  pub trying-passed : 0 < nth up (d + 1) → Trying (mapOf g) r labels queue lead up held s rows (d + 1)
-  trying-passed covered = trying-on (best-passed taken filter (y .best) dart covered)
-
-  -- the start is left out
-  pub trying-left : (rankOf (mapOf g) (d + 1) ≡ r → ⊥) → Trying (mapOf g) r labels queue lead up held s rows (d + 1)
-  trying-left other = trying-on (best-left taken filter (y .best) (ne-eqb (rankOf M next) r other))
+  pub trying-passed : passesOver (mapOf g) up r (d + 1) ≡ true → Trying (mapOf g) r labels queue lead up held s rows (d + 1)
+  trying-passed is = at (passed-by M up r next is)
+    where
+      at : (0 < nth up next) ⊎ (r < rankOf M next) → Trying (mapOf g) r labels queue lead up held s rows next
+      at (inl covered) = trying-on (best-passed taken filter (y .best) dart covered)
+      at (inr above) = trying-on (best-left taken filter (y .best) (ne-eqb (rankOf M next) r (λ z. omega arith)))
 
   module _ {labels′ queue′ held′ : List ℕ} {side : Side} (t : Tried g (d + 1) rows false held labels′ queue′ held′ side) where
     -- the rows that are held, and those of the start

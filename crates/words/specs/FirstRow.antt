@@ -4,12 +4,14 @@
 --     rankOf M d                 twice that, and one more where d is 2-sewn: a start of a lesser rank has a lesser word
 --     Rows, Ranks                the ranks of a map's starts, or that of one, may be asked
 --     LeastRank M r              r is the least rank of all starts
+--     passesOver M up r d        d need not be tried: a dart is over it, which has its word, or its rank is above r
 -- Assumes nothing.
 use Prim.Native.Nat.{ℕ, _+_, _*_, _≤_}
 use mathlib.Core.Path.{_≡_}
-use mathlib.Core.Bool.{cond, _||_}
+use mathlib.Core.Bool.{Bool, cond, _||_}
 use mathlib.Core.List.{List}
-use lib.Dec.{eqb}
+use lib.Dec.{eqb, ltb}
+use Rattle.maps.specs.Least.{nth}
 use Rattle.maps.specs.Map.{Map, IsDart, sew}
 use Rattle.maps.specs.Given.{Given, mapOf, Shaped}
 use Rattle.maps.specs.Answer.{backsOf}
@@ -37,3 +39,7 @@ pub record LeastRank (M : Map) (r : ℕ) : Type 0 where
   pub dart : IsDart M start
   pub reached : rankOf M start ≡ r
   pub none-less : (d : ℕ) → IsDart M d → r ≤ rankOf M d
+
+-- a start need not be tried where a dart is over it in the trees, or where its rank is above r
+unfoldable pub passesOver : Map → List ℕ → ℕ → ℕ → Bool
+passesOver M up r d = ltb 0 (nth up d) || ltb r (rankOf M d)

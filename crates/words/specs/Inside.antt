@@ -7,6 +7,7 @@
 --     front M d rows              the first rows of the word from d
 --     Ready                       a start may be tried, as far as these rows
 --     Outcome                     how a start's rows come out against those held, and what is held then
+--     Forgets                     the labels given can be forgotten
 --     Raced, Tried                what running a start leaves, before and after its labels are forgotten
 --     startedAt                   the start kept, by how the last start came out
 --     Settles, Settled            the lead and the trees kept, by how it came out
@@ -112,7 +113,12 @@ pub record Raced (g : Given) (d rows : ℕ) (firm : Bool) (held labels′ queue�
   pub holds : Holds labels′ queue′ (r .given) (take (r .given) queue′)
   pub whole : leavesAt firm (r .side) ≡ false → rows ≡ g .m → take (r .given) queue′ ≡ labelling (mapOf g) d
 
--- and its labels are forgotten
+-- the labels of a queue can be forgotten: each of its darts has a place in the array
+pub record Forgets (labels queue : List ℕ) (given : ℕ) : Type 0 where
+  pub holds : Holds labels queue given (take given queue)
+  pub inside : (k : ℕ) → 1 ≤ k → k ≤ given → (1 ≤ nth (take given queue) k) × (nth (take given queue) k ≤ 1020)
+
+-- the start's labels are forgotten
 pub record Tried (g : Given) (d rows : ℕ) (firm : Bool) (held labels′ queue′ held′ : List ℕ) (side : Side) : Type 0 where
   pub came : Outcome g d rows firm held held′ side
   pub blank : labels′ ≡ replicate 1020 0

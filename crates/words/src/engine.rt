@@ -3,8 +3,8 @@ ghost use mathlib.Core.Path.{_≡_};
 ghost use Prim.Native.Nat.{_≤_, _<_};
 ghost use lib.ListN.{take, replicate};
 ghost use Rattle.maps.specs.Given.{lent};
-ghost use Rattle.labels.specs.Inside.{Meets, Forgets};
-ghost use Rattle.words.specs.Inside.{isLess, isSame, Met, Weighs, Weighed, leavesAt, Ready, Raced, Tried};
+ghost use Rattle.labels.specs.Inside.{Meets};
+ghost use Rattle.words.specs.Inside.{isLess, isSame, Met, Weighs, Weighed, leavesAt, Ready, Forgets, Raced, Tried};
 
 // How a start's word comes out against the word held.
 pub(crate) enum Side {

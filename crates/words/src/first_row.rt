@@ -1,7 +1,7 @@
 // The first row of a start's word, read off the start's own sewings: a start that comes out greater there need not be tried.
 ghost use mathlib.Core.Path.{_≡_};
 ghost use Rattle.maps.specs.Given.{lent, mapOf};
-ghost use Rattle.words.specs.FirstRow.{firstLabel, rankOf, Rows, Ranks, LeastRank};
+ghost use Rattle.words.specs.FirstRow.{firstLabel, rankOf, Rows, Ranks, LeastRank, passesOver};
 use crate::engine::wide;
 
 // The label of β1(d) in the labelling from d, in which β0(d) is met before it.
@@ -54,4 +54,23 @@ pub(crate) fn least_rank(n: usize, m: usize, table: &[u16], back: &[u16; 1020]) 
         }
     }
     least
+}
+
+// A start need not be tried where a lesser dart is over it, which has its word, or where its first row is not the least.
+pub(crate) fn passed_over(
+    n: usize,
+    m: usize,
+    table: &[u16],
+    back: &[u16; 1020],
+    up: &[u16; 1020],
+    least: usize,
+    d: usize,
+) -> bool
+    requires { ⌜ Ranks (lent n m (now table)) (now back) d ⌝ }
+    ensures { λ r. ⌜ r ≡ passesOver (mapOf (lent n m (now (table .entry)))) (now (up .entry)) least d ⌝ }
+{
+    if wide(up[d - 1]) != 0 {
+        return true;
+    }
+    least < rank(n, m, table, back, d)
 }

@@ -9,9 +9,8 @@ ghost use Rattle.words.specs.Inside.{isSame, fewRows, Settles, Settled, 
 use crate::engine::Side;
 use crate::engine::alike;
 use crate::engine::try_start;
-use crate::engine::wide;
 use crate::first_row::least_rank;
-use crate::first_row::rank;
+use crate::first_row::passed_over;
 use crate::orbits::join_all;
 use crate::orbits::tree_size;
 use maps::Judged;
@@ -133,11 +132,7 @@ impl Signing {
         let mut d = 0;
         while d < m {
             let next = d + 1;
-            if wide(up[d]) != 0 {
-                d = next;
-                continue;
-            }
-            if rank(n, m, table, back, next) != least {
+            if passed_over(n, m, table, back, &up, least, next) {
                 d = next;
                 continue;
             }

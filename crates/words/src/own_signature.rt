@@ -9,7 +9,7 @@ ghost use Rattle.words.specs.Inside.{Leads, HeldAs, Holding};
 use crate::engine::alike;
 use crate::engine::below;
 use crate::engine::try_start;
-use crate::engine::wide;
+use crate::first_row::passed_over;
 use crate::first_row::rank;
 use crate::orbits::join_all;
 use maps::Judged;
@@ -54,10 +54,7 @@ fn is_least(
     let mut d = 1;
     while d < m {
         d += 1;
-        if wide(up[d - 1]) != 0 {
-            continue;
-        }
-        if first < rank(n, m, table, back, d) {
+        if passed_over(n, m, table, back, &up, first, d) {
             continue;
         }
         let side = try_start(n, m, table, back, labels, queue, word, d, m, true);

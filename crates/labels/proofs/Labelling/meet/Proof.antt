@@ -1,5 +1,4 @@
 -- `labels::Labelling::meet` meets its contract: 0 and a dart with a label change nothing, and any other gets the next. Assumes nothing.
-use Prim.Native.Nat.{_-_}
 use mathlib.Core.Path.{_≡_, sym, _∙_}
 use native.Mathlib.Nat.{pos-of-ne-zero}
 use native.Mathlib.Omega.{arith}

@@ -8,7 +8,8 @@ use lib.ListN.{take}
 use lib.Seq.{getD-take}
 use Rattle.maps.specs.Least.{nth}
 use Rattle.maps.proofs.Least.{nth-suc}
-use Rattle.labels.proofs.Inside.{Forgetting, forgetting-start, forgetting-turn, forgetting-done, holds-length}
+use Rattle.labels.proofs.Inside.{holds-length}
+use Rattle.words.proofs.Forgetting.{Forgetting, forgetting-start, forgetting-turn, forgetting-done}
 use Rattle.words.proofs.engine.forget.Statement.{statement}
 use Rattle.words.proofs.engine.forget.Tie as tie
 

@@ -17,12 +17,12 @@ use Rattle.maps.proofs.Given.{in-row, row-sew}
 use Rattle.maps.proofs.Answer.{backs-sew}
 use Rattle.labels.specs.Queue.{served, labelling}
 use Rattle.labels.proofs.Queue.{served-queue, labelling-served}
-use Rattle.labels.proofs.Inside.{holds-own, holds-meets}
+use Rattle.labels.proofs.Inside.{holds-own}
 use Rattle.words.specs.Words.{word}
 use Rattle.words.specs.Inside.{Outcome, front}
 use Rattle.words.specs.declared.engine.Side.{Side}
 use Rattle.words.proofs.Standing.{Ended, standing-end}
-use Rattle.words.proofs.Racing.{length-front, turnOf, turn-dart, row-good, Serving, Rowing, serving-start, turn-read, turn-good, rowing-start, rowing-turn, rowing-end, rowing-left, row-inside, row-on, row-holds, met-few}
+use Rattle.words.proofs.Racing.{length-front, turnOf, met-few, Serving, Rowing, serving-start, DartTurn, turn-read, turn-is-dart, turn-meets, rowing-start, rowing-end, NumberTurn, row-place, row-on, row-meets, row-once, row-holds, rowing-turn, rowing-left}
 use Rattle.words.proofs.engine.race.Statement.{statement}
 use Rattle.words.proofs.engine.race.Tie as tie
 
@@ -119,21 +119,24 @@ fits s = omega (arith, length-front (s .pre .taken) _ (s .pre .dart) (s .args .r
 turn : (c : tie.In-labels Inv-loop μ-loop Inv-labels μ-labels) → c .before .labels .k < 1020
 turn c = omega (arith, in-map c, few (start (c .before)))
 
+-- so a turn is one dart more
+turn-of : (c : tie.In-labels Inv-loop μ-loop Inv-labels μ-labels) →
+    let l = c .before in
+    let a = start l .args in
+    let v = l .labels in
+    DartTurn (map-of (start l)) (a .d) (a .rows) (a .firm) (a .word .now) (v .labels) (v .queue) (v .word) (v .labelling .given) (v .side) (v .p) (v .k)
+turn-of c =
+    let s = start (c .before) in
+    record { taken = s .pre .taken; dart = s .pre .dart; most = most s; fits = fits s; so-far = c .before .labels .inv; turn = c .labels-test .taken }
+
 -- what is read from the queue is the dart whose turn it is
 served-is : (c : Wide) →
     let l = in-labels c .before in
     c .wide .result ≡ turnOf (map-of (start l)) (start l .args .d) (l .labels .k)
-unfolding mapOf
-served-is c =
-    let l = in-labels c .before in
-    c .wide .ensures ∙ turn-read (start l .pre .taken) _ (start l .pre .dart) (most (start l)) (l .labels .inv) (in-labels c .labels-test .taken)
+served-is c = c .wide .ensures ∙ turn-read (turn-of (in-labels c))
 
 served-dart : (c : Wide) → IsDart (map-of (start (in-labels c .before))) (c .wide .result)
-unfolding mapOf
-served-dart c =
-    let l = in-labels c .before in
-    let dart = turn-dart (start l .pre .taken) _ (start l .pre .dart) (l .labels .k) (in-map (in-labels c)) in
-    omega (arith, served-is c)
+served-dart c = let dart = turn-is-dart (turn-of (in-labels c)) in omega (arith, served-is c)
 
 served-few : (c : Wide) → (1 ≤ c .wide .result) × (c .wide .result ≤ 1020)
 unfolding mapOf
@@ -152,19 +155,6 @@ before-is c =
     ∙ backs-sew _ (w .wide .result) (served-dart w) (served-few w .1)
     ∙ ap (sew _ 0) (served-is w)
 
-before-few : (c : tie.After-wide2 Inv-loop μ-loop Inv-labels μ-labels) → c .wide2 .result ≤ start (in-labels (read c) .before) .args .m
-unfolding mapOf
-before-few c =
-    let l = in-labels (read c) .before in
-    omega (arith, before-is c, start l .pre .taken .open-map .to-darts 0 (turnOf (map-of (start l)) (start l .args .d) (l .labels .k)))
-
-meet-requires : tie.Need-meet-requires Inv-loop μ-loop Inv-labels μ-labels
-unfolding mapOf
-meet-requires c κs =
-    let l = in-labels (read c) .before in
-    let s = start l in
-    holds-meets (l .labels .inv .holds) (turn-good (s .pre .taken) _ (s .pre .dart) (most s) (l .labels .inv) (in-labels (read c) .labels-test .taken)) (few s) _ (before-few c)
-
 -- the dart's row lies in the table
 in-the-row : (c : Wide) (i : ℕ) →
     let a = start (in-labels c .before) .args in
@@ -180,11 +170,17 @@ mul-row : tie.Need-mul-row Inv-loop μ-loop Inv-labels μ-labels
 mul-row c = let w = read (c .before) in omega (arith, row-fits w 0 (start (in-labels w .before) .pre .shaped .bounds .dim-least))
 
 loop-holds : tie.Need-loop-holds Inv-loop μ-loop Inv-labels μ-labels
+loop-holds c = rowing-start (turn-of (in-labels (read (c .before)))) (before-is (c .before)) (c .meet .ensures)
+
+-- and a turn of the row is one number more
+number-of : (t : InLoop) →
+    let l = in-labels (wide-of t) .before in
+    let a = start l .args in
+    let v = l .labels in
+    let u = t .before .loop in
+    NumberTurn (map-of (start l)) (a .d) (a .rows) (a .firm) (a .word .now) (v .labels) (v .queue) (v .word) (v .labelling .given) (v .side) (v .p) (v .k) (u .labels) (u .queue) (u .word) (u .labelling .given) (u .side) (u .p) (u .i)
 unfolding mapOf
-loop-holds c =
-    let w = read (c .before) in
-    let l = in-labels w .before in
-    rowing-start (start l .pre .taken) _ (start l .pre .dart) (most (start l)) (l .labels .inv) (in-labels w .labels-test .taken) (before-is (c .before)) (c .meet .ensures)
+number-of t = record { dart-turn = turn-of (in-labels (wide-of t)); so-far = t .before .loop .inv; turn = t .loop-test .taken }
 
 -- what is read from the table is βi of the dart whose turn it is
 entry-is : (c : tie.After-wide3 Inv-loop μ-loop Inv-labels μ-labels) →
@@ -199,67 +195,25 @@ entry-is c =
     ∙ row-sew (start (in-labels w .before) .pre .shaped) (w .wide .result) (t .before .loop .i) (served-dart w) (t .loop-test .taken)
     ∙ ap (sew _ (suc (t .before .loop .i))) (served-is w)
 
-entry-few : (c : tie.After-wide3 Inv-loop μ-loop Inv-labels μ-labels) → c .wide3 .result ≤ start (in-labels (wide-of (in-loop c)) .before) .args .m
-unfolding mapOf
-entry-few c =
-    let t = in-loop c in
-    let l = in-labels (wide-of t) .before in
-    omega (arith, entry-is c, start l .pre .taken .open-map .to-darts (suc (t .before .loop .i)) (turnOf (map-of (start l)) (start l .args .d) (l .labels .k)))
-
-meet-requires-2 : tie.Need-meet-requires-2 Inv-loop μ-loop Inv-labels μ-labels
-unfolding mapOf
-meet-requires-2 c κs =
-    let t = in-loop c in
-    let w = wide-of t in
-    let l = in-labels w .before in
-    let s = start l in
-    holds-meets (t .before .loop .inv .holds) (row-good (s .pre .taken) _ (s .pre .dart) (l .labels .k) (in-map (in-labels w)) (t .before .loop .i)) (few s) _ (entry-few c)
-
 -- in a turn the number's place is in the word
 place-fits : (t : InLoop) → t .before .loop .p < 1020
-unfolding mapOf
-place-fits t =
-    let w = wide-of t in
-    let l = in-labels w .before in
-    let s = start l in
-    let here = row-inside (s .pre .taken) _ (s .pre .dart) (most s) (l .labels .inv) (in-labels w .labels-test .taken) (t .before .loop .inv) (t .loop-test .taken) in
-    omega (arith, here, fits s, s .pre .long-word)
+place-fits t = omega (arith, row-place (number-of t), start (in-labels (wide-of t) .before) .pre .long-word)
 
 weigh-requires : tie.Need-weigh-requires Inv-loop μ-loop Inv-labels μ-labels
-unfolding mapOf
 weigh-requires c κs =
     let m = c .before in
     let t = in-loop (m .before) in
-    let w = wide-of t in
-    let l = in-labels w .before in
-    let s = start l in
-    let taken = s .pre .taken in
-    let turn = in-labels w .labels-test .taken in
-    record {
-      place = place-fits t;
-      fits = met-few (m .meet2 .ensures);
-      on = row-on taken _ (s .pre .dart) (most s) (l .labels .inv) turn (t .before .loop .inv) (t .loop-test .taken) (fits s);
-    }
+    record { place = place-fits t; fits = met-few (m .meet2 .ensures); on = row-on (number-of t) }
 
 loop-again : tie.Need-loop-again Inv-loop μ-loop Inv-labels μ-labels
-unfolding mapOf
 loop-again c =
     let judged = c .before in
     let m = met judged in
-    let t = in-loop (m .before) in
-    let w = wide-of t in
-    let l = in-labels w .before in
-    rowing-turn (start l .pre .taken) _ (start l .pre .dart) (most (start l)) (l .labels .inv) (in-labels w .labels-test .taken) (t .before .loop .inv) (t .loop-test .taken) (entry-is (m .before))
-    (m .meet2 .ensures)
-    (judged .before .weigh .ensures)
-    (sym (judged .leaves .ensures) ∙ c .if1 .left)
+    rowing-turn (number-of (in-loop (m .before))) (entry-is (m .before)) (m .meet2 .ensures) (judged .before .weigh .ensures) (sym (judged .leaves .ensures) ∙ c .if1 .left)
 
 labels-again : tie.Need-labels-again Inv-loop μ-loop Inv-labels μ-labels
 unfolding mapOf
-labels-again c =
-    let w = read (c .before .before .before) in
-    let l = in-labels w .before in
-    rowing-end (start l .pre .taken) _ (start l .pre .dart) (most (start l)) (l .labels .inv) (in-labels w .labels-test .taken) (c .before .loop .inv) (fits (start l)) (c .loop-test .left)
+labels-again c = rowing-end (turn-of (in-labels (read (c .before .before .before)))) (c .before .loop .inv) (c .loop-test .left)
 
 returns : tie.Need-returns Inv-loop μ-loop Inv-labels μ-labels
 unfolding mapOf
@@ -279,24 +233,16 @@ returns c =
     }
 
 returns-2 : tie.Need-returns-2 Inv-loop μ-loop Inv-labels μ-labels
-unfolding mapOf
 returns-2 c =
     let judged = c .before in
     let m = met judged in
     let t = in-loop (m .before) in
-    let w = wide-of t in
-    let l = in-labels w .before in
-    let s = start l in
-    let taken = s .pre .taken in
-    let turn = in-labels w .labels-test .taken in
+    let s = start (in-labels (wide-of t) .before) in
     let gone = sym (judged .leaves .ensures) ∙ c .if1 .taken in
-    let held = row-holds taken _ (s .pre .dart) (most s) (l .labels .inv) turn (t .before .loop .inv) (t .loop-test .taken) (entry-is (m .before)) (m .meet2 .ensures) in
+    let held = row-holds (number-of t) (entry-is (m .before)) (m .meet2 .ensures) in
     record {
-      came = ended-outcome taken (s .pre .dart) (most s)
-          (rowing-left taken _ (s .pre .dart) (most s) (l .labels .inv) turn (t .before .loop .inv) (t .loop-test .taken) (entry-is (m .before)) (m .meet2 .ensures) (judged .before .weigh .ensures)
-          (fits s)
-          gone);
-      good = rw (held .so-far) (row-good taken _ (s .pre .dart) (l .labels .k) (in-map (in-labels w)) (suc (t .before .loop .i)));
+      came = ended-outcome (s .pre .taken) (s .pre .dart) (most s) (rowing-left (number-of t) (entry-is (m .before)) (m .meet2 .ensures) (judged .before .weigh .ensures) gone);
+      good = rw (held .so-far) (row-once (number-of t));
       holds = holds-own held;
       whole = λ on _. absurd (true-not-false gone on);
     }
@@ -322,7 +268,7 @@ race-spec =
     (λ c. omega (arith, served-few (c .before .before)))
     (λ c. omega (arith, served-few (c .before .before)))
     (λ c κs. search needs)
-    meet-requires
+    (λ c κs. turn-meets (turn-of (in-labels (read c))) _ (before-is c))
     (λ c. served-few (read (c .before)) .0)
     mul-row
     loop-holds
@@ -330,7 +276,7 @@ race-spec =
     (λ c. let t = c .before .before in omega (arith, row-fits (wide-of t) (t .before .loop .i) (t .loop-test .taken)))
     (λ c. let t = c .before .before .before in in-the-row (wide-of t) (t .before .loop .i) (t .loop-test .taken))
     (λ c κs. search needs)
-    meet-requires-2
+    (λ c κs. row-meets (number-of (in-loop c)) _ (entry-is c))
     weigh-requires
     (λ c κs. search needs)
     (λ c. omega (arith, place-fits (in-loop (met (c .before) .before))))

@@ -4,24 +4,25 @@ use Prim.Native.Nat.{ℕ, _+_, _-_, _*_, _≤_, _<_}
 use mathlib.Core.Path.{_≡_, refl, sym, ap, _∙_}
 use mathlib.Core.Bool.{true, false}
 use mathlib.Core.List.{List}
+use mathlib.Core.Logic.{_⊎_, inl, inr}
 use native.Mathlib.Omega.{arith}
 use borrow.Author.Needs.{needs}
 use lib.ListN.{length, take, replicate}
 use Rattle.maps.specs.Least.{nth}
 use Rattle.maps.specs.Map.{IsDart}
 use Rattle.maps.specs.Given.{Given, lent, mapOf}
-use Rattle.maps.proofs.Least.{nth-at, Passed, passed-start, passed-turn, passed-misses}
+use Rattle.maps.proofs.Least.{Passed, passed-start, passed-turn, passed-misses}
 use Rattle.maps.proofs.Accepted.{darts-most}
 use Rattle.words.specs.Words.{word, same, less}
 use Rattle.words.specs.Forest.{joinedAll, JoinsAll}
-use Rattle.words.specs.FirstRow.{rankOf}
+use Rattle.words.specs.FirstRow.{rankOf, passesOver}
 use Rattle.words.specs.Inside.{sideOf, isLess, isSame, Tried, Leads}
 use Rattle.words.specs.declared.engine.Side.{Side}
 use Rattle.words.proofs.Order.{less-irreflexive, yields-word, word-yields}
 use Rattle.words.proofs.Starts.{greater-not-less, seeks-ready, same-stays, same-yields, less-told}
 use Rattle.words.proofs.Racing.{TriedWhole, tried-whole}
 use Rattle.words.proofs.Kin.{Kin, kin-none, Alike, tied-alike, alike-joins, kin-joinedAll}
-use Rattle.words.proofs.FirstRow.{rank-less}
+use Rattle.words.proofs.FirstRow.{rank-less, passed-by}
 use Rattle.words.proofs.Own.{own-yielded, own-less}
 use Rattle.words.proofs.own_signature.is_least.Statement.{statement}
 use Rattle.words.proofs.own_signature.is_least.Tie as tie
@@ -35,37 +36,29 @@ record Trying (g : Given) (held₀ labels queue held up : List ℕ) (d : ℕ) : 
   kin : Kin (mapOf g) up
   none-less : Passed (λ e. less (word (mapOf g) e) (take (g .n * g .m) held₀)) (d + 1)
 
--- of a start that is passed over, the dart over it was tried
-trying-passed : {g : Given} {held₀ labels queue held up : List ℕ} {k d : ℕ} → Trying g held₀ labels queue held up k → k + 1 ≡ d → IsDart (mapOf g) d → 0 < nth up d → Trying g held₀ labels queue held up d
-trying-passed {g} {held₀} {up = up} {k = k} {d = d} y next dart covered =
-    let kin = y .kin in
-    let same = kin .one-word d (dart .0) (dart .1) covered in
-    let lower = kin .forest .lower d (dart .0) in
-    let earlier = rw next at (y .none-less) in
-    record {
-      low = dart .0;
-      blank = y .blank;
-      long-queue = y .long-queue;
-      firm = y .firm;
-      kin = kin;
-      none-less = passed-turn _ earlier (rw (← same) (earlier (nth up d) covered lower));
-    }
-
--- a start of a greater rank than start 1 has a greater word
-trying-left : {g : Given} {back labels₀ queue₀ lead held₀ labels queue held up : List ℕ} {k d : ℕ} → Leads g back labels₀ queue₀ lead held₀ → Trying g held₀ labels queue held up k → k + 1 ≡ d → IsDart (mapOf g) d
-    → rankOf (mapOf g) 1 < rankOf (mapOf g) d → Trying g held₀ labels queue held up d
+-- of a start that is passed over, the dart over it was tried, or its rank is greater than that of start 1, and so is its word
+trying-passed : {g : Given} {back labels₀ queue₀ lead held₀ labels queue held up : List ℕ} {k d r : ℕ} → Leads g back labels₀ queue₀ lead held₀ → Trying g held₀ labels queue held up k → k + 1 ≡ d → IsDart (mapOf g) d
+    → r ≡ rankOf (mapOf g) 1 → passesOver (mapOf g) up r d ≡ true → Trying g held₀ labels queue held up d
 unfolding mapOf
-trying-left {g} {d = d} p y next dart lower =
-    let taken = p .seeks .taken in
-    let greater = rank-less taken 1 d (omega arith, taken .bounds .darts-least) dart lower in
+trying-passed {g} {held₀ = held₀} {up = up} {d = d} {r = r} p y next dart first is =
     record {
       low = dart .0;
       blank = y .blank;
       long-queue = y .long-queue;
       firm = y .firm;
       kin = y .kin;
-      none-less = passed-turn _ (rw next at (y .none-less)) (greater-not-less _ _ (rw (p .first) at greater));
+      none-less = passed-turn _ (rw next at (y .none-less)) (at (passed-by _ up r d is));
     }
+  where
+    at : (0 < nth up d) ⊎ (r < rankOf (mapOf g) d) → less (word (mapOf g) d) (take (g .n * g .m) held₀) ≡ false
+    at (inl covered) =
+        let same = y .kin .one-word d (dart .0) (dart .1) covered in
+        let earlier = rw next at (y .none-less) in
+        rw (← same) (earlier (nth up d) covered (y .kin .forest .lower d (dart .0)))
+    at (inr above) =
+        let taken = p .seeks .taken in
+        let greater = rank-less taken 1 d (omega arith, taken .bounds .darts-least) dart (omega (arith, first)) in
+        greater-not-less _ _ (rw (p .first) at greater)
 
 module _ (g : Given) {back labels₀ queue₀ lead held₀ : List ℕ} (p : Leads g back labels₀ queue₀ lead held₀) {labels queue held up : List ℕ} {k d : ℕ} (y : Trying g held₀ labels queue held up k) (next : k + 1 ≡ d) (dart : IsDart (mapOf g) d)
     {labels′ queue′ held′ : List ℕ} {side : Side} (t : Tried g d (g .m) true held labels′ queue′ held′ side) where
@@ -118,11 +111,8 @@ abbrev μ-loop : tie.MeasureT-loop
 abbrev start : tie.At-loop Inv-loop μ-loop → tie.Start Inv-loop μ-loop
 start c = c .before .before .before
 
-abbrev not-over : tie.After-rank2 Inv-loop μ-loop → tie.In-loop Inv-loop μ-loop
-not-over c = c .before .before .before
-
 abbrev in-loop : tie.After-try-start Inv-loop μ-loop → tie.In-loop Inv-loop μ-loop
-in-loop c = not-over (c .before .before .before .before .before)
+in-loop c = c .before .before .before .before .before .before .before
 
 abbrev tried : tie.After-alike Inv-loop μ-loop → tie.After-try-start Inv-loop μ-loop
 tried c = c .before .before .before
@@ -135,17 +125,9 @@ dart : (c : tie.In-loop Inv-loop μ-loop) → IsDart (mapOf (given (c .before)))
 unfolding mapOf
 dart c = (omega arith, omega (arith, c .loop-test .taken))
 
-turn : (c : tie.In-loop Inv-loop μ-loop) → c .before .loop .d + 1 ≤ 1020
-unfolding mapOf
-turn c = omega (arith, dart c .1, darts-most (start (c .before) .pre .seeks .shaped .bounds))
-
--- what is read is what is over it
-read : (c : tie.After-wide Inv-loop μ-loop) → let l = c .before .before in nth (l .loop .up) (l .loop .d + 1) ≡ c .wide .result
-read c = nth-at _ _ (omega arith) ∙ sym (c .wide .ensures)
-
 -- how a start came out
 not-less : (c : tie.After-alike Inv-loop μ-loop) → isLess (tried c .try-start .result) ≡ false
-not-less c = let b = c .before .before in sym (b .below .ensures) ∙ c .before .if3 .left
+not-less c = let b = c .before .before in sym (b .below .ensures) ∙ c .before .if2 .left
 
 rank-requires : tie.Need-rank-requires Inv-loop μ-loop
 unfolding mapOf
@@ -165,29 +147,23 @@ loop-holds c =
       none-less = passed-turn _ (passed-start _) (rw (s .pre .first) (less-irreflexive _));
     }
 
-loop-again : tie.Need-loop-again Inv-loop μ-loop
-loop-again c =
-    let w = c .before in
-    let l = w .before .before in
-    trying-passed (l .loop .inv) refl (dart (w .before)) (omega (arith, read w, c .if1 .taken))
-
 -- a start may be ranked
-rank-requires-2 : tie.Need-rank-requires-2 Inv-loop μ-loop
-rank-requires-2 c κs =
-    let i = c .before .before in
+passed-over-requires : tie.Need-passed-over-requires Inv-loop μ-loop
+passed-over-requires c κs =
+    let i = c .before in
     let s = start (i .before) .pre .seeks in
     record { rows = record { shaped = s .shaped; backs = s .backs }; dart = dart i }
 
-loop-again-2 : tie.Need-loop-again-2 Inv-loop μ-loop
-loop-again-2 c =
-    let r = c .before in
-    let i = not-over r in
+loop-again : tie.Need-loop-again Inv-loop μ-loop
+loop-again c =
+    let o = c .before in
+    let i = o .before .before in
     let l = i .before in
-    trying-left (start l .pre) (l .loop .inv) refl (dart i) (omega (arith, l .before .rank .ensures, r .rank2 .ensures, c .if2 .taken))
+    trying-passed (start l .pre) (l .loop .inv) refl (dart i) (l .before .rank .ensures) (sym (o .passed-over .ensures) ∙ c .if1 .taken)
 
 try-start-requires : tie.Need-try-start-requires Inv-loop μ-loop
 try-start-requires c κs =
-    let t = not-over (c .before .before .before .before) in
+    let t = c .before .before .before .before .before .before in
     let y = t .before .loop .inv in
     seeks-ready (start (t .before) .pre .seeks) (dart t) (y .blank) (y .long-queue) (y .firm)
 
@@ -197,12 +173,12 @@ returns c =
     let t = b .before in
     let i = in-loop t in
     let l = i .before in
-    let below = less-told _ _ _ _ (came (given l) (start l .pre) (l .loop .inv) refl (dart i) (t .try-start .ensures)) (b .below .ensures) ∙ c .if3 .taken in
+    let below = less-told _ _ _ _ (came (given l) (start l .pre) (l .loop .inv) refl (dart i) (t .try-start .ensures)) (b .below .ensures) ∙ c .if2 .taken in
     sym (own-less _ _ _ (dart i) below)
 
 -- a start that is tied
-level : (c : tie.Then4 Inv-loop μ-loop) → isSame (tried (c .before) .try-start .result) ≡ true
-level c = sym (c .before .alike .ensures) ∙ c .if4 .taken
+level : (c : tie.Then3 Inv-loop μ-loop) → isSame (tried (c .before) .try-start .result) ≡ true
+level c = sym (c .before .alike .ensures) ∙ c .if3 .taken
 
 join-all-requires : tie.Need-join-all-requires Inv-loop μ-loop
 join-all-requires c κs =
@@ -212,8 +188,8 @@ join-all-requires c κs =
     let l = i .before in
     joins (given l) (start l .pre) (l .loop .inv) refl (dart i) (t .try-start .ensures) (level e)
 
-loop-again-3 : tie.Need-loop-again-3 Inv-loop μ-loop
-loop-again-3 c =
+loop-again-2 : tie.Need-loop-again-2 Inv-loop μ-loop
+loop-again-2 c =
     let e = c .before .before .before in
     let t = tried (e .before) in
     let i = in-loop t in
@@ -222,8 +198,8 @@ loop-again-3 c =
     (rw (c .join-all .ensures) (joined-kin (given l) (start l .pre) (l .loop .inv) refl (dart i) (t .try-start .ensures) (level e)))
     (not-less (e .before))
 
-loop-again-4 : tie.Need-loop-again-4 Inv-loop μ-loop
-loop-again-4 c =
+loop-again-3 : tie.Need-loop-again-3 Inv-loop μ-loop
+loop-again-3 c =
     let a = c .before in
     let t = tried a in
     let i = in-loop t in
@@ -246,23 +222,17 @@ is-least-spec =
     μ-loop
     rank-requires
     loop-holds
-    (λ c. omega (arith, turn c))
-    (λ c. omega arith)
-    (λ c. omega (arith, turn c))
-    (λ c. omega (arith, turn c))
-    (λ c κs. search needs)
+    (λ c. omega (arith, dart c .1, darts-most (start (c .before) .pre .seeks .shaped .bounds)))
+    passed-over-requires
     (λ c. omega arith)
     loop-again
-    rank-requires-2
-    (λ c. omega arith)
-    loop-again-2
     try-start-requires
     (λ c κs. search needs)
     returns
     (λ c κs. search needs)
     join-all-requires
     (λ c. omega arith)
-    loop-again-3
+    loop-again-2
     (λ c. omega arith)
-    loop-again-4
+    loop-again-3
     returns-2)

@@ -10,7 +10,7 @@ use lib.Dec.{ltb}
 use lib.ListN.{length, length-replicate}
 use Rattle.maps.specs.Least.{nth}
 use Rattle.maps.specs.Given.{Given, lent, mapOf}
-use Rattle.maps.proofs.Least.{Tested, passes, fails, tested, true-not-false, nth-one-more}
+use Rattle.maps.proofs.Least.{Tested, passes, fails, tested, true-not-false}
 use Rattle.maps.proofs.Accepted.{darts-most}
 use Rattle.words.specs.Words.{word}
 use Rattle.words.specs.FirstRow.{rankOf}
@@ -20,8 +20,8 @@ use Rattle.words.proofs.Order.{both-true}
 use Rattle.words.proofs.Known.{known-start}
 use Rattle.words.proofs.Kin.{kin-none}
 use Rattle.words.proofs.Leading.{Tied, best-start, best-led, best-signature, best-first, best-symmetries}
-use Rattle.words.proofs.FirstRow.{rank-filter}
-use Rattle.words.proofs.Trying.{bestWord, bestWord-none, Trying, Turn, trying-passed, trying-left, some-start, same-rows, same-still, settles, trying-turn, partly-still, trying-spelt}
+use Rattle.words.proofs.FirstRow.{rank-filter, not-passed}
+use Rattle.words.proofs.Trying.{bestWord, bestWord-none, Trying, Turn, turn-dart, trying-passed, some-start, same-rows, same-still, settles, trying-turn, partly-still, trying-spelt}
 use Rattle.words.proofs.least_word.Signing.run.Statement.{statement}
 use Rattle.words.proofs.least_word.Signing.run.Tie as tie
 
@@ -39,19 +39,13 @@ start c = c .before .before .before .before
 abbrev ranks-of : tie.At-loop Inv-loop μ-loop → tie.After-least-rank Inv-loop μ-loop
 ranks-of c = c .before .before
 
-abbrev not-over : tie.After-rank Inv-loop μ-loop → tie.In-loop Inv-loop μ-loop
-not-over c = c .before .before .before
-
-abbrev ranked : tie.After-try-start Inv-loop μ-loop → tie.Else2 Inv-loop μ-loop
-ranked c = c .before .before .before .before
-
 abbrev in-loop : tie.After-try-start Inv-loop μ-loop → tie.In-loop Inv-loop μ-loop
-in-loop c = not-over (ranked c .before)
+in-loop c = c .before .before .before .before .before .before .before
 
 abbrev tried : tie.After-agrees Inv-loop μ-loop → tie.After-try-start Inv-loop μ-loop
 tried c = c .before
 
-abbrev settled : tie.After-up Inv-loop μ-loop → tie.Else3 Inv-loop μ-loop
+abbrev settled : tie.After-up2 Inv-loop μ-loop → tie.Else2 Inv-loop μ-loop
 settled c = c .before .before .before
 
 abbrev given : tie.At-loop Inv-loop μ-loop → Given
@@ -68,13 +62,6 @@ turn-of : (c : tie.In-loop Inv-loop μ-loop) →
 turn-of c =
     let l = c .before in
     record { taken = start l .pre .taken; ranks = ranks-of l .least-rank .ensures; so-far = l .loop .inv; in-map = start-in c }
-
-turn : (c : tie.In-loop Inv-loop μ-loop) → c .before .loop .d + 1 ≤ 1020
-turn c = omega (arith, start-in c, darts-most (start (c .before) .pre .shaped .bounds))
-
--- what is read is what is over it
-read : (c : tie.After-wide Inv-loop μ-loop) → let l = c .before .before in nth (l .loop .up) (l .loop .d + 1) ≡ c .wide .result
-read c = nth-one-more _ _ ∙ sym (c .wide .ensures)
 
 -- some rows are spelt out at first, as many as there are at most
 few-low : (m : ℕ) → 1 ≤ m → 1 ≤ fewRows m
@@ -113,32 +100,21 @@ loop-holds c =
       order = λ no. absurd (omega arith);
     }
 
-loop-again : tie.Need-loop-again Inv-loop μ-loop
-loop-again c =
-    let w = c .before in
-    let l = w .before .before in
-    let s = start l in
-    trying-passed (turn-of (w .before)) (omega (arith, read w, c .if1 .taken))
-
-rank-requires : tie.Need-rank-requires Inv-loop μ-loop
+-- a start may be ranked
+passed-over-requires : tie.Need-passed-over-requires Inv-loop μ-loop
 unfolding mapOf
-rank-requires c κs =
-    let i = c .before .before in
+passed-over-requires c κs =
+    let i = c .before in
     let s = start (i .before) in
     record { rows = record { shaped = s .pre .shaped; backs = s .pre .backs }; dart = (omega arith, start-in i) }
 
-loop-again-2 : tie.Need-loop-again-2 Inv-loop μ-loop
-loop-again-2 c =
-    let r = c .before in
-    let i = not-over r in
-    let l = i .before in
-    let s = start l in
-    trying-left (turn-of i) (λ z. c .if2 .taken (r .rank .ensures ∙ z))
+loop-again : tie.Need-loop-again Inv-loop μ-loop
+loop-again c = let p = c .before in trying-passed (turn-of (p .before .before)) (sym (p .passed-over .ensures) ∙ c .if1 .taken)
 
 try-start-requires : tie.Need-try-start-requires Inv-loop μ-loop
 unfolding mapOf
 try-start-requires c κs =
-    let i = not-over (c .before .before .before .before) in
+    let i = c .before .before .before .before .before .before in
     let s = start (i .before) in
     let y = i .before .loop .inv in
     record {
@@ -152,23 +128,23 @@ try-start-requires c κs =
       long-word = y .long-word;
     }
 
--- the start has no dart over it
-alone : (c : tie.After-try-start Inv-loop μ-loop) → let l = in-loop c .before in nth (l .loop .up) (l .loop .d + 1) ≡ 0
-alone c = let e = ranked c .before .before in read (e .before) ∙ e .if1 .left
-
--- and is of the least rank
-is-least : (c : tie.After-try-start Inv-loop μ-loop) →
+-- the start has no dart over it, and is of the least rank
+kept-start : (c : tie.After-try-start Inv-loop μ-loop) →
     let l = in-loop c .before in
-    rankOf (mapOf (given l)) (l .loop .d + 1) ≡ ranks-of l .least-rank .result
-is-least c = let r = ranked c in sym (r .before .rank .ensures) ∙ r .if2 .left
+    (nth (l .loop .up) (l .loop .d + 1) ≡ 0) × (rankOf (mapOf (given l)) (l .loop .d + 1) ≡ ranks-of l .least-rank .result)
+kept-start c =
+    let l = in-loop c .before in
+    let e = c .before .before .before .before in
+    let free = not-passed _ _ _ _ (sym (e .before .passed-over .ensures) ∙ e .if1 .left) in
+    (free .0, omega (arith, free .1, ranks-of l .least-rank .ensures .none-less _ (turn-dart (turn-of (in-loop c)))))
 
 -- a start that agrees with all rows that are known, where some are not
-open-rows : (c : tie.Then3 Inv-loop μ-loop) →
+open-rows : (c : tie.Then2 Inv-loop μ-loop) →
     let t = tried (c .before) in
     let l = in-loop t .before in
     (isSame (t .try-start .result) ≡ true) × (l .loop .rows < start l .args .m)
 open-rows c =
-    let both = both-true _ _ (sym (c .before .agrees .ensures) ∙ c .if3 .taken) in
+    let both = both-true _ _ (sym (c .before .agrees .ensures) ∙ c .if2 .taken) in
     (both .0, ltb-true _ _ (both .1))
 
 -- otherwise a start that is the same is so in all rows
@@ -179,14 +155,14 @@ all-rows rows m side most not-open is = at (tested (ltb rows m))
     at (passes e) = absurd (let no : true ≡ false = rw (is, e) at not-open in true-not-false refl no)
     at (fails e) = omega (arith, ltb-false rows m e)
 
-decided : (c : tie.Else3 Inv-loop μ-loop) →
+decided : (c : tie.Else2 Inv-loop μ-loop) →
     let t = tried (c .before) in
     let l = in-loop t .before in
     isSame (t .try-start .result) ≡ true → l .loop .rows ≡ start l .args .m
 unfolding mapOf
 decided c =
     let l = in-loop (tried (c .before)) .before in
-    all-rows _ _ _ (l .loop .inv .rows-high) (sym (c .before .agrees .ensures) ∙ c .if3 .left)
+    all-rows _ _ _ (l .loop .inv .rows-high) (sym (c .before .agrees .ensures) ∙ c .if2 .left)
 
 spell-out-requires : tie.Need-spell-out-requires Inv-loop μ-loop
 unfolding mapOf
@@ -215,8 +191,8 @@ spell-out-requires c κs =
       partly = partly-still (turn-of i) done is;
     }
 
-loop-again-3 : tie.Need-loop-again-3 Inv-loop μ-loop
-loop-again-3 c =
+loop-again-2 : tie.Need-loop-again-2 Inv-loop μ-loop
+loop-again-2 c =
     let e = c .before .before .before .before in
     let t = tried (e .before) in
     let i = in-loop t in
@@ -233,14 +209,14 @@ settle-requires c κs =
     let s = start l in
     record { few = darts-most (s .pre .shaped .bounds); long-queue = t .try-start .ensures .long-queue; long-lead = l .loop .inv .long-lead; joins = settles (turn-of i) (t .try-start .ensures) (decided e) }
 
-loop-again-4 : tie.Need-loop-again-4 Inv-loop μ-loop
-loop-again-4 c =
+loop-again-3 : tie.Need-loop-again-3 Inv-loop μ-loop
+loop-again-3 c =
     let e = settled (c .before) in
     let t = tried (e .before) in
     let i = in-loop t in
     let l = i .before in
     let s = start l in
-    trying-turn (turn-of i) (t .try-start .ensures) (alone t) (is-least t) (decided e) (c .settle .ensures)
+    trying-turn (turn-of i) (t .try-start .ensures) (kept-start t .0) (kept-start t .1) (decided e) (c .settle .ensures)
 
 -- all starts are tried, passed over or left out: one leads
 led : (c : tie.After-loop Inv-loop μ-loop) →
@@ -301,23 +277,18 @@ run-spec =
     (λ c κs. let s = c .before in record { shaped = s .pre .shaped; backs = s .pre .backs })
     (λ c κs. search needs)
     loop-holds
-    (λ c. omega (arith, turn c))
-    (λ c. omega (arith, turn c))
-    (λ c. omega (arith, turn c))
-    (λ c κs. search needs)
+    (λ c. omega (arith, start-in c, darts-most (start (c .before) .pre .shaped .bounds)))
+    passed-over-requires
     (λ c. omega arith)
     loop-again
-    rank-requires
-    (λ c. omega arith)
-    loop-again-2
     try-start-requires
     (λ c κs. search needs)
     spell-out-requires
     (λ c. omega (arith, open-rows (c .before .before .before .before) .1))
-    loop-again-3
+    loop-again-2
     settle-requires
     (λ c. omega arith)
-    loop-again-4
+    loop-again-3
     spell-out-requires-2
     (λ c κs. let s = start (c .before .before .before .before .before .before) in record { forest = c .before .before .before .before .before .before .loop .inv .best .kin .forest; few = darts-most (s .pre .shaped .bounds) })
     returns)

@@ -11,13 +11,14 @@
    the end. No two records have the same die number or the same layout. Records count from 1. With the count 0 the drawer is
    empty, whatever its bytes are: what stands behind the counted records is never looked at.
 
-   Every call judges its input itself, whatever the numbers: what it cannot take it refuses with a number and a place, and then
-   every buffer is as it was. Of you it asks that a pointer is never null, also of an empty buffer, that a buffer is as long as
-   its length says, that numbers of 16 bits stand at even addresses, and that the buffers of one call do not overlap.
+   Every call judges its input itself, whatever the numbers: what it cannot take it refuses with a number and a place, and
+   then every buffer is as it was. Of you it asks that a pointer is never null, also of an empty buffer, that a buffer is as
+   long as its length says, that numbers of 16 bits stand at even addresses, and that a buffer that a call writes overlaps no
+   other of that call.
 
    What a call needs
-     Processor   x86-64 without extensions, with the System V calling convention (that of Linux): a size_t has 8 bytes. The code
-                 uses SSE2 registers and the 128 bytes below the stack pointer (the red zone), which interrupts must leave alone.
+     Processor   x86-64 with SSE2 and no later extension, and the System V calling convention (that of Linux): a size_t has 8
+                 bytes. The code uses the 128 bytes below the stack pointer (the red zone), which interrupts must leave alone.
      Stack       6 to 23 KB. All working room is on the stack; none is lent by you, and none allocated. The bytes for each call
                  are DUFTHEIM_STACK_.. below.
      To link     memcpy and memset, as the C library has them, and nothing else.
@@ -31,9 +32,10 @@
                  drawer tried. docs/SPEED.md has all figures.
      Answers     are handed back by value. The bytes between the members of a struct are not written: compare members.
 
-   That the answers are right is proved, not tested. The proof rests on the prover, the compiler and the processor, on memcpy and
-   memset, on what is asked of you, and on this header saying what crates/reader does. What is proved is what the definitions say
-   in the folders specs/ of crates/; docs/PROMISES.md leads there, sentence by sentence. */
+   That the answers are right is proved, and not only tested; duftheim_record_bytes, below, is plain C. The proof rests on the
+   prover, the compiler and the processor, on memcpy and memset, on what is asked of you, and on this header saying what
+   crates/reader does. What is proved is what the definitions say in the folders specs/ of crates/; docs/PROMISES.md leads
+   there, sentence by sentence. */
 #ifndef DUFTHEIM_H
 #define DUFTHEIM_H
 

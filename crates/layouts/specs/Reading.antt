@@ -33,6 +33,6 @@ Stepped p (To q) = (allRead p < allRead q) × ((allRead q ≤ p .records * 2048 
 Stepped p End = Unit
 Stepped p Fault = Unit
 
--- 0 where the whole input was read and each line written, else 1
+-- 0 or 1: which of them, no contract says
 abbrev pub Status : ℤ → Type 0
 Status s = (s ≡ pos 0) ⊎ (s ≡ pos 1)

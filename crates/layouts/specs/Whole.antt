@@ -1,4 +1,5 @@
--- The lines that the program asks for, one after the other, are the whole output of the definitions (`lister`, Listing).
+-- The lines of the records in turn, and of what is left, are the whole output of the definitions (`lister`, Listing). That the
+-- program asks for them is run: no contract says what was read.
 --     handedOver k bytes   the lines for the first k records, each handed over as 2,048 bytes with its number
 --     Whole                with what is left behind them, they are the listing
 -- Assumes nothing.

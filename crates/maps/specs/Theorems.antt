@@ -1,5 +1,5 @@
 -- What a matching is good for, as statements (theorem 7). `proofs/Theorems.antt` proves each.
---     MatchingsCompose, MatchingsTurn     matchings compose and turn round
+--     MatchingsCompose, MatchingsTurn     matchings compose, and one of an accepted map turns round
 --     AcceptedCarried                     acceptance passes along a matching
 -- Assumes nothing.
 use Rattle.maps.specs.Map.{Map}

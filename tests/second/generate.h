@@ -17,12 +17,22 @@ void print_match(struct chance *chance, const struct map *first, const struct ma
                  enum output_length length);
 void print_judge(const struct map *first, const struct map *second, uint16_t *list, size_t length);
 
-// How many of `count` cases fall to the group that weighs `weight` after `before`, of `total`.
-uint64_t share(uint64_t count, uint64_t before, uint64_t weight, uint64_t total);
+// `count` cases are dealt out to groups that weigh `total` in all; `before` is the weight of the groups dealt to.
+struct shares {
+  uint64_t count;
+  uint64_t total;
+  uint64_t before;
+};
+uint64_t next_share(struct shares *shares, uint64_t weight);
+
+struct size {
+  uint64_t n;
+  uint64_t m;
+};
 
 // Prints `count` cases in all, tables of at most `most_entries` numbers where they are accepted.
 void print_match_cases(struct chance *chance, uint64_t count, uint64_t most_entries);
-void print_judge_cases(struct chance *chance, uint64_t count, uint64_t most_entries);
+void print_judge_cases(struct chance *chance, uint64_t count);
 void print_drawer_cases(struct chance *chance, uint64_t count);
 
 // All four calls on drawers of each kind: every size, every fault in the first, a middle and the

@@ -327,18 +327,13 @@ struct drawer_group {
 };
 
 static const struct drawer_group drawer_groups[] = {
-    {20, print_good},    {12, print_alike},      {8, print_behind_count},
-    {56, print_spoiled}, {20, print_bad_counts}, {34, print_refused_maps},
-    {26, print_filings}, {14, print_history},    {10, print_fulls},
+    {20, print_good},         {12, print_alike},   {8, print_behind_count}, {56, print_spoiled}, {20, print_bad_counts},
+    {34, print_refused_maps}, {26, print_filings}, {14, print_history},     {10, print_fulls},
 };
 
-enum { DRAWER_TOTAL = 20 + 12 + 8 + 56 + 20 + 34 + 26 + 14 + 10 };
-
 void print_drawer_cases(struct chance *chance, uint64_t count) {
-  uint64_t before = 0;
-  for (size_t group = 0; group < sizeof drawer_groups / sizeof drawer_groups[0]; group++) {
-    uint64_t weight = drawer_groups[group].weight;
-    drawer_groups[group].print(chance, share(count, before, weight, DRAWER_TOTAL));
-    before += weight;
+  struct shares shares = {.count = count, .total = 200};
+  for (size_t group = 0; shares.before < shares.total; group++) {
+    drawer_groups[group].print(chance, next_share(&shares, drawer_groups[group].weight));
   }
 }

@@ -48,6 +48,8 @@ void print_judge(const struct map *first, const struct map *second, uint16_t *li
                                  .second = map_lent(second), .list = {list, length}});
 }
 
-uint64_t share(uint64_t count, uint64_t before, uint64_t weight, uint64_t total) {
-  return count * (before + weight) / total - count * before / total;
+uint64_t next_share(struct shares *shares, uint64_t weight) {
+  uint64_t dealt = shares->count * shares->before / shares->total;
+  shares->before += weight;
+  return shares->count * shares->before / shares->total - dealt;
 }

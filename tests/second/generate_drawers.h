@@ -28,8 +28,8 @@ struct map filed_map(struct chance *chance, const struct drawer *drawer, uint64_
 struct map unfiled_map(struct chance *chance, const struct drawer *drawer);
 uint32_t unfiled_die(struct chance *chance, const struct drawer *drawer);
 
-// Files a layout that is not filed yet, under a new die number.
-void drawer_file(struct chance *chance, struct drawer *drawer, const struct map *map);
+// Files a map, and says which number that gives.
+unsigned drawer_add(struct drawer *drawer, uint32_t die, const struct map *map);
 
 enum spoil {
   SPOIL_DIE_ZERO,
@@ -51,6 +51,12 @@ const char *spoil_name(enum spoil spoil);
 
 // Makes the record bad; false where this spoil cannot do it, and then the drawer is as it was.
 bool spoil_record(struct chance *chance, struct drawer *drawer, uint64_t record, enum spoil spoil);
+
+// Puts something in a byte that must be 0.
+void spoil_zero(struct chance *chance, uint8_t *byte);
+
+// The filling's first byte behind so many numbers, its last one, and some other; false where it has none.
+bool filling_places(struct chance *chance, size_t numbers, size_t places[3]);
 
 // Counts that are above 1,024 or want more bytes than a drawer of a few records has: those that
 // narrow numbers would take for the true one are among them, and those whose bytes would wrap to

@@ -146,10 +146,7 @@ static struct drawer empty_drawer(struct chance *chance) {
 // Some layouts were made in two ways, and the second one is refused with 17.
 static void file_if_new(struct chance *chance, struct drawer *drawer, const struct map *map) {
   struct map renumbered = map_shuffled(chance, map);
-  uint32_t die = unfiled_die(chance, drawer);
-  struct second_filed filed =
-      second_add(die, map_lent(&renumbered), drawer->count, drawer->bytes, drawer->length);
-  drawer->count += filed.number == 0;
+  drawer_add(drawer, unfiled_die(chance, drawer), &renumbered);
 }
 
 // A word of the same map that is not the least: mostly the next one, so that few starts are better

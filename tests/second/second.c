@@ -52,17 +52,6 @@ static struct second_verdict judge_bounds(uint64_t n, uint64_t m) {
   return accepted();
 }
 
-static struct second_verdict judge_size(struct second_map map) {
-  struct second_verdict bounds = judge_bounds(map.n, map.m);
-  if (bounds.number != 0) {
-    return bounds;
-  }
-  if (map.length != map.n * map.m) {
-    return refused(3, 0);
-  }
-  return accepted();
-}
-
 static uint16_t entry(struct second_map map, unsigned i, unsigned dart) {
   return map.table[(dart - 1) * map.n + i - 1];
 }
@@ -165,7 +154,8 @@ static unsigned dart_not_reached(const struct sewings *sewn) {
   return 0;
 }
 
-// Wants a map of accepted size whose entries are all at most m.
+// Wants a map of accepted size whose entries are all at most m. Beta0 means something only where no two darts
+// clash: beta0(d) is the dart that beta1 takes to d, or 0.
 static void read_sewings(struct second_map map, struct sewings *sewn) {
   memset(sewn, 0, sizeof *sewn);
   sewn->n = (unsigned)map.n;
@@ -174,24 +164,23 @@ static void read_sewings(struct second_map map, struct sewings *sewn) {
     for (unsigned i = 1; i <= sewn->n; i++) {
       sewn->beta[i][dart] = entry(map, i, dart);
     }
+    sewn->beta[0][sewn->beta[1][dart]] = (uint16_t)dart;
   }
+  sewn->beta[0][0] = 0;
 }
 
-static unsigned dart_before(const struct sewings *sewn, unsigned dart) {
-  for (unsigned before = 1; before <= sewn->m; before++) {
-    if (sewn->beta[1][before] == dart) {
-      return before;
-    }
-  }
-  return 0;
-}
+// The rules of 6 to 9 in their order.
+struct rule {
+  unsigned number;
+  unsigned (*broken_at)(const struct sewings *sewn);
+};
 
-// beta0 means something only once no two darts clash.
-static void read_beta0(struct sewings *sewn) {
-  for (unsigned dart = 1; dart <= sewn->m; dart++) {
-    sewn->beta[0][dart] = (uint16_t)dart_before(sewn, dart);
-  }
-}
+static const struct rule rules[] = {
+    {6, dart_with_clash},
+    {7, dart_not_answered},
+    {8, dart_with_bad_composition},
+    {9, dart_not_reached},
+};
 
 // Judges 5 to 9 of a map of accepted size; the sewings are whole where it is accepted.
 static struct second_verdict judge_sewings(struct second_map map, struct sewings *sewn) {
@@ -200,40 +189,34 @@ static struct second_verdict judge_sewings(struct second_map map, struct sewings
     return refused(5, dart);
   }
   read_sewings(map, sewn);
-  dart = dart_with_clash(sewn);
-  if (dart != 0) {
-    return refused(6, dart);
+  for (size_t at = 0; at < sizeof rules / sizeof rules[0]; at++) {
+    dart = rules[at].broken_at(sewn);
+    if (dart != 0) {
+      return refused(rules[at].number, dart);
+    }
   }
-  dart = dart_not_answered(sewn);
-  if (dart != 0) {
-    return refused(7, dart);
-  }
-  dart = dart_with_bad_composition(sewn);
-  if (dart != 0) {
-    return refused(8, dart);
-  }
-  dart = dart_not_reached(sewn);
-  if (dart != 0) {
-    return refused(9, dart);
-  }
-  read_beta0(sewn);
   return accepted();
 }
 
-// The whole judgement of a map that no output goes with.
-static struct second_verdict judge_map(struct second_map map, struct sewings *sewn) {
-  struct second_verdict size = judge_size(map);
-  if (size.number != 0) {
-    return size;
+// Judges 1 to 9 of a map with a lent output, of which so many numbers are needed.
+static struct second_verdict judge_for_output(struct second_map map, uint64_t needed, size_t out_length,
+                                              struct sewings *sewn) {
+  struct second_verdict bounds = judge_bounds(map.n, map.m);
+  if (bounds.number != 0) {
+    return bounds;
+  }
+  if (map.length != map.n * map.m) {
+    return refused(3, 0);
+  }
+  if (out_length < needed) {
+    return refused(4, 0);
   }
   return judge_sewings(map, sewn);
 }
 
-static struct second_verdict as_second_map(struct second_verdict verdict) {
-  if (verdict.number == 0) {
-    return verdict;
-  }
-  return refused(verdict.number + 20, verdict.place);
+// The whole judgement of a map that no output goes with.
+static struct second_verdict judge_map(struct second_map map, struct sewings *sewn) {
+  return judge_for_output(map, 0, 0, sewn);
 }
 
 struct second_verdict second_check(struct second_map map) {
@@ -372,28 +355,13 @@ static void sign(const struct sewings *sewn, struct signature *signature) {
 void second_labels(struct second_map map, uint64_t start, uint16_t *labels) {
   struct sewings sewn;
   read_sewings(map, &sewn);
-  read_beta0(&sewn);
   label_from(&sewn, (unsigned)start, labels);
 }
 
 void second_word(struct second_map map, uint64_t start, uint16_t *word) {
   struct sewings sewn;
   read_sewings(map, &sewn);
-  read_beta0(&sewn);
   word_from(&sewn, (unsigned)start, word);
-}
-
-// Judges 4 in its place between 3 and 5.
-static struct second_verdict judge_for_output(struct second_map map, uint64_t needed,
-                                              size_t out_length, struct sewings *sewn) {
-  struct second_verdict size = judge_size(map);
-  if (size.number != 0) {
-    return size;
-  }
-  if (out_length < needed) {
-    return refused(4, 0);
-  }
-  return judge_sewings(map, sewn);
 }
 
 struct second_signed second_sign(struct second_map map, uint16_t *out, size_t out_length) {
@@ -476,25 +444,28 @@ static void force_list(const struct sewings *first, const struct sewings *second
   }
 }
 
-static bool same_size(const struct sewings *first, const struct sewings *second) {
-  return first->n == second->n && first->m == second->m;
+// Judges the first map with an output of which so many numbers are needed, then the second, then 10 by their sizes.
+static struct second_verdict judge_pair(struct second_map first, struct second_map second, uint64_t needed,
+                                        size_t out_length, struct sewings *first_sewn, struct sewings *second_sewn) {
+  struct second_verdict verdict = judge_for_output(first, needed, out_length, first_sewn);
+  if (verdict.number != 0) {
+    return verdict;
+  }
+  verdict = judge_map(second, second_sewn);
+  if (verdict.number != 0) {
+    return refused(verdict.number + 20, verdict.place);
+  }
+  bool same_size = first.n == second.n && first.m == second.m;
+  return same_size ? accepted() : refused(10, 0);
 }
 
-struct second_verdict second_match(struct second_map first, struct second_map second, uint16_t *out,
-                                   size_t out_length) {
+struct second_verdict second_match(struct second_map first, struct second_map second, uint16_t *out, size_t out_length) {
   struct sewings first_sewn;
   struct sewings second_sewn;
   uint16_t list[MOST_NUMBERS];
-  struct second_verdict verdict = judge_for_output(first, first.m, out_length, &first_sewn);
+  struct second_verdict verdict = judge_pair(first, second, first.m, out_length, &first_sewn, &second_sewn);
   if (verdict.number != 0) {
     return verdict;
-  }
-  verdict = as_second_map(judge_map(second, &second_sewn));
-  if (verdict.number != 0) {
-    return verdict;
-  }
-  if (!same_size(&first_sewn, &second_sewn)) {
-    return refused(10, 0);
   }
   for (unsigned image = 1; image <= second_sewn.m; image++) {
     force_list(&first_sewn, &second_sewn, image, list);
@@ -506,20 +477,13 @@ struct second_verdict second_match(struct second_map first, struct second_map se
   return refused(10, 0);
 }
 
-struct second_verdict second_judge(struct second_map first, struct second_map second,
-                                   const uint16_t *list, size_t list_length) {
+struct second_verdict second_judge(struct second_map first, struct second_map second, const uint16_t *list,
+                                   size_t list_length) {
   struct sewings first_sewn;
   struct sewings second_sewn;
-  struct second_verdict verdict = judge_map(first, &first_sewn);
+  struct second_verdict verdict = judge_pair(first, second, 0, 0, &first_sewn, &second_sewn);
   if (verdict.number != 0) {
     return verdict;
-  }
-  verdict = as_second_map(judge_map(second, &second_sewn));
-  if (verdict.number != 0) {
-    return verdict;
-  }
-  if (!same_size(&first_sewn, &second_sewn)) {
-    return refused(10, 0);
   }
   if (list_length != first_sewn.m) {
     return refused(11, 0);

@@ -15,6 +15,7 @@ enum { RECORD = RECORD_BYTES, MOST = 1024 };
 #define NUMBERS(...) (const uint16_t[]){__VA_ARGS__}, LENGTH_OF(__VA_ARGS__)
 #define LENGTH_OF(...) (sizeof((const uint16_t[]){__VA_ARGS__}) / sizeof(uint16_t))
 #define MAP(n, m, ...) ((struct second_map){(n), (m), NUMBERS(__VA_ARGS__)})
+#define NOTHING NULL, 0
 
 // Every answer is compared and printed as four numbers, those that a call does not have being 0.
 #define ANSWER(...) ((const uint64_t[4]){__VA_ARGS__})
@@ -121,10 +122,6 @@ static void sign_to(const char *what, struct second_map map, size_t out_length, 
   expect_same("sign", what, outputs.expected, outputs.lent, sizeof outputs.lent);
 }
 
-static void sign_refused(const char *what, struct second_map map, size_t out_length, unsigned number, uint64_t place) {
-  sign_to(what, map, out_length, ANSWER(number, place), NULL, 0);
-}
-
 // The lent output is two numbers longer than needed, and then just long enough.
 static void sign_gives(const char *what, struct second_map map, uint64_t start, uint64_t symmetries, const uint16_t *word,
                        size_t length) {
@@ -153,12 +150,12 @@ static void check_signatures(void) {
 }
 
 static void check_short_signature_output(void) {
-  sign_refused("output of 5 for 6 numbers", case_e, 5, 4, 0);
-  sign_refused("an empty output", case_e, 0, 4, 0);
-  sign_refused("4 comes before 5", case_h, 3, 4, 0);
-  sign_refused("an output long enough lets 5 through", case_h, 4, 5, 1);
-  sign_refused("3 comes before 4", MAP(2, 2, 0, 0, 0), 0, 3, 0);
-  sign_refused("2 comes before 4", (struct second_map){2, 0, NULL, 0}, 0, 2, 0);
+  sign_to("output of 5 for 6 numbers", case_e, 5, ANSWER(4, 0), NOTHING);
+  sign_to("an empty output", case_e, 0, ANSWER(4, 0), NOTHING);
+  sign_to("4 comes before 5", case_h, 3, ANSWER(4, 0), NOTHING);
+  sign_to("an output long enough lets 5 through", case_h, 4, ANSWER(5, 1), NOTHING);
+  sign_to("3 comes before 4", MAP(2, 2, 0, 0, 0), 0, ANSWER(3, 0), NOTHING);
+  sign_to("2 comes before 4", (struct second_map){2, 0, NULL, 0}, 0, ANSWER(2, 0), NOTHING);
 }
 
 // Labels or a word from one start. Labels stand as epsilon, a, b, .. g.
@@ -324,11 +321,6 @@ static void match_to(const char *what, struct second_map first, struct second_ma
   expect_same("match", what, outputs.expected, outputs.lent, sizeof outputs.lent);
 }
 
-static void match_refused(const char *what, struct second_map first, struct second_map second, size_t out_length,
-                          unsigned number, uint64_t place) {
-  match_to(what, first, second, out_length, ANSWER(number, place), NULL, 0);
-}
-
 // The lent output is one number longer than needed, and then just long enough.
 static void match_gives(const char *what, struct second_map first, struct second_map second, const uint16_t *list,
                         size_t length) {
@@ -350,24 +342,24 @@ static void check_match(void) {
 }
 
 static void check_match_refusals(void) {
-  match_refused("C against D", case_c, case_d, MOST, 10, 0);
-  match_refused("D against C", case_d, case_c, MOST, 10, 0);
-  match_refused("m differs", case_a, case_c, MOST, 10, 0);
-  match_refused("n differs", case_a, case_d, MOST, 10, 0);
-  match_refused("unsewn against sewn", case_a, case_b, MOST, 10, 0);
-  match_refused("sewn against unsewn", case_b, case_a, MOST, 10, 0);
-  match_refused("ring against chain", MAP(1, 3, 2, 3, 1), MAP(1, 3, 2, 3, 0), MOST, 10, 0);
-  match_refused("beta2 unsewn in one", MAP(2, 2, 2, 1, 1, 2), MAP(2, 2, 2, 0, 1, 0), MOST, 10, 0);
-  match_refused("beta2 to itself or across", MAP(2, 2, 2, 1, 1, 2), MAP(2, 2, 2, 2, 1, 1), MOST, 10, 0);
-  match_refused("an output of 2 for 3 darts", case_e, case_e, 2, 4, 0);
-  match_refused("4 comes before 5", case_h, case_e, 1, 4, 0);
-  match_refused("an output long enough lets 5 through", case_h, case_e, 2, 5, 1);
-  match_refused("3 comes before 4", MAP(2, 2, 0), case_e, 0, 3, 0);
-  match_refused("4 comes before the second map", case_e, case_h, 2, 4, 0);
-  match_refused("the first m counts, not the second: 2 of 2", case_c, case_e, 2, 10, 0);
-  match_refused("the first m counts, not the second: 2 of 3", case_e, case_c, 2, 4, 0);
-  match_refused("the second map comes before 10", case_a, case_h, 1, 25, 1);
-  match_refused("the first map comes before the second", case_i, case_h, 2, 6, 2);
+  match_to("C against D", case_c, case_d, MOST, ANSWER(10, 0), NOTHING);
+  match_to("D against C", case_d, case_c, MOST, ANSWER(10, 0), NOTHING);
+  match_to("m differs", case_a, case_c, MOST, ANSWER(10, 0), NOTHING);
+  match_to("n differs", case_a, case_d, MOST, ANSWER(10, 0), NOTHING);
+  match_to("unsewn against sewn", case_a, case_b, MOST, ANSWER(10, 0), NOTHING);
+  match_to("sewn against unsewn", case_b, case_a, MOST, ANSWER(10, 0), NOTHING);
+  match_to("ring against chain", MAP(1, 3, 2, 3, 1), MAP(1, 3, 2, 3, 0), MOST, ANSWER(10, 0), NOTHING);
+  match_to("beta2 unsewn in one", MAP(2, 2, 2, 1, 1, 2), MAP(2, 2, 2, 0, 1, 0), MOST, ANSWER(10, 0), NOTHING);
+  match_to("beta2 to itself or across", MAP(2, 2, 2, 1, 1, 2), MAP(2, 2, 2, 2, 1, 1), MOST, ANSWER(10, 0), NOTHING);
+  match_to("an output of 2 for 3 darts", case_e, case_e, 2, ANSWER(4, 0), NOTHING);
+  match_to("4 comes before 5", case_h, case_e, 1, ANSWER(4, 0), NOTHING);
+  match_to("an output long enough lets 5 through", case_h, case_e, 2, ANSWER(5, 1), NOTHING);
+  match_to("3 comes before 4", MAP(2, 2, 0), case_e, 0, ANSWER(3, 0), NOTHING);
+  match_to("4 comes before the second map", case_e, case_h, 2, ANSWER(4, 0), NOTHING);
+  match_to("the first m counts, not the second: 2 of 2", case_c, case_e, 2, ANSWER(10, 0), NOTHING);
+  match_to("the first m counts, not the second: 2 of 3", case_e, case_c, 2, ANSWER(4, 0), NOTHING);
+  match_to("the second map comes before 10", case_a, case_h, 1, ANSWER(25, 1), NOTHING);
+  match_to("the first map comes before the second", case_i, case_h, 2, ANSWER(6, 2), NOTHING);
 }
 
 // ---- Judging a handed-in list ----
@@ -431,30 +423,15 @@ static void add_gives(const char *what, uint32_t die, struct second_map map, uin
   add_to(what, die, map, count, drawer, length, ANSWER(0, 0, count + 1), record);
 }
 
-static void add_refused(const char *what, uint32_t die, struct second_map map, uint64_t count, uint8_t *drawer,
-                        size_t length, unsigned number, uint64_t place) {
-  add_to(what, die, map, count, drawer, length, ANSWER(number, place, 0), NULL);
-}
-
 // The record handed back must be that part of the drawer, or empty on refusal.
-static void find_answers(const char *what, struct second_map map, uint64_t count, const uint8_t *drawer, size_t length,
-                         const uint64_t answer[4]) {
+static void find_gives(const char *what, struct second_map map, uint64_t count, const uint8_t *drawer, size_t length,
+                       const uint64_t answer[4]) {
   struct second_found got = second_find(map, count, drawer, length);
   struct second_part part = second_record(map, count, drawer, length);
   uint64_t record = part.length == 0 ? 0 : (uint64_t)(part.bytes - drawer) / RECORD + 1;
   uint64_t rest = part.length == 0 ? 0 : (uint64_t)(part.bytes - drawer) % RECORD;
   expect("find", what, answer, ANSWER(got.number, got.place, got.die, got.record));
   expect("record", what, ANSWER(answer[3], 0, answer[3] == 0 ? 0 : RECORD), ANSWER(record, rest, part.length));
-}
-
-static void find_gives(const char *what, struct second_map map, uint64_t count, const uint8_t *drawer, size_t length,
-                       uint32_t die, uint64_t record) {
-  find_answers(what, map, count, drawer, length, ANSWER(0, 0, die, record));
-}
-
-static void find_refused(const char *what, struct second_map map, uint64_t count, const uint8_t *drawer, size_t length,
-                         unsigned number, uint64_t place) {
-  find_answers(what, map, count, drawer, length, ANSWER(number, place));
 }
 
 static void drawer_gives(const char *what, uint64_t count, const uint8_t *drawer, size_t length, unsigned number,
@@ -471,18 +448,18 @@ static void check_one_refused_map(const struct refused_map *refused) {
   uint64_t place = refused->place;
   uint8_t drawer[RECORD] = {0};
   expect_verdict("check", what, number, place, second_check(map));
-  sign_refused(what, map, MOST, number, place);
-  match_refused(what, map, case_e, MOST, number, place);
-  match_refused(what, case_e, map, MOST, number + 20, place);
-  match_refused(what, map, map, MOST, number, place);
+  sign_to(what, map, MOST, ANSWER(number, place), NOTHING);
+  match_to(what, map, case_e, MOST, ANSWER(number, place), NOTHING);
+  match_to(what, case_e, map, MOST, ANSWER(number + 20, place), NOTHING);
+  match_to(what, map, map, MOST, ANSWER(number, place), NOTHING);
   judge_gives(what, map, case_e, number, place, NUMBERS(1, 2, 3));
   judge_gives(what, case_e, map, number + 20, place, NUMBERS(1, 2, 3));
   // The count, the only record and die 0 are refused too, but only after the map.
-  find_refused(what, map, 2, drawer, RECORD, number, place);
-  find_refused(what, map, 1, drawer, RECORD, number, place);
-  add_refused(what, 0, map, 2, drawer, RECORD, number, place);
-  add_refused(what, 0, map, 1, drawer, RECORD, number, place);
-  add_refused(what, 9, map, 0, drawer, RECORD, number, place);
+  find_gives(what, map, 2, drawer, RECORD, ANSWER(number, place));
+  find_gives(what, map, 1, drawer, RECORD, ANSWER(number, place));
+  add_to(what, 0, map, 2, drawer, RECORD, ANSWER(number, place), NULL);
+  add_to(what, 0, map, 1, drawer, RECORD, ANSWER(number, place), NULL);
+  add_to(what, 9, map, 0, drawer, RECORD, ANSWER(number, place), NULL);
 }
 
 static void check_refused_maps(void) {
@@ -515,27 +492,27 @@ static void search_life(const uint8_t *drawer) {
   drawer_gives("four filed layouts", 4, drawer, LIFE_BYTES, 0, 0);
   drawer_gives("fewer counted than filed", 2, drawer, LIFE_BYTES, 0, 0);
   drawer_gives("an empty drawer", 0, NULL, 0, 0, 0);
-  find_gives("F", case_f, 4, drawer, LIFE_BYTES, 501, 1);
-  find_gives("G is F", case_g, 4, drawer, LIFE_BYTES, 501, 1);
-  find_gives("E", case_e, 4, drawer, LIFE_BYTES, 0x01020304, 2);
-  find_gives("C", case_c, 4, drawer, LIFE_BYTES, 7, 3);
-  find_gives("D shares 0,1 with C", case_d, 4, drawer, LIFE_BYTES, UINT32_MAX, 4);
-  find_refused("A isn't filed", case_a, 4, drawer, LIFE_BYTES, 15, 0);
-  find_refused("D isn't counted", case_d, 3, drawer, LIFE_BYTES, 15, 0);
-  find_refused("nothing is in an empty drawer", case_a, 0, NULL, 0, 15, 0);
+  find_gives("F", case_f, 4, drawer, LIFE_BYTES, ANSWER(0, 0, 501, 1));
+  find_gives("G is F", case_g, 4, drawer, LIFE_BYTES, ANSWER(0, 0, 501, 1));
+  find_gives("E", case_e, 4, drawer, LIFE_BYTES, ANSWER(0, 0, 0x01020304, 2));
+  find_gives("C", case_c, 4, drawer, LIFE_BYTES, ANSWER(0, 0, 7, 3));
+  find_gives("D shares 0,1 with C", case_d, 4, drawer, LIFE_BYTES, ANSWER(0, 0, UINT32_MAX, 4));
+  find_gives("A isn't filed", case_a, 4, drawer, LIFE_BYTES, ANSWER(15, 0));
+  find_gives("D isn't counted", case_d, 3, drawer, LIFE_BYTES, ANSWER(15, 0));
+  find_gives("nothing is in an empty drawer", case_a, 0, NULL, 0, ANSWER(15, 0));
 }
 
 static void refuse_life(uint8_t *drawer) {
-  add_refused("die 0", 0, case_a, 4, drawer, LIFE_BYTES, 16, 0);
-  add_refused("die 0 comes before 17", 0, case_f, 4, drawer, LIFE_BYTES, 16, 0);
-  add_refused("die filed", 7, case_a, 4, drawer, LIFE_BYTES, 16, 3);
-  add_refused("die filed, layout filed elsewhere", 7, case_f, 4, drawer, LIFE_BYTES, 16, 3);
-  add_refused("layout filed", 9, case_c, 4, drawer, LIFE_BYTES, 17, 3);
-  add_refused("layout filed, numbered otherwise", 9, case_g, 4, drawer, LIFE_BYTES, 17, 1);
-  add_refused("layout filed, with room left", 9, case_e, 3, drawer, LIFE_BYTES, 17, 2);
-  add_refused("no room at all", 9, case_a, 4, drawer, LIFE_BYTES, 18, 0);
-  add_refused("a byte short of room", 9, case_a, 3, drawer, LIFE_BYTES - 1, 18, 0);
-  add_refused("no room in an empty drawer", 9, case_a, 0, drawer, RECORD - 1, 18, 0);
+  add_to("die 0", 0, case_a, 4, drawer, LIFE_BYTES, ANSWER(16, 0), NULL);
+  add_to("die 0 comes before 17", 0, case_f, 4, drawer, LIFE_BYTES, ANSWER(16, 0), NULL);
+  add_to("die filed", 7, case_a, 4, drawer, LIFE_BYTES, ANSWER(16, 3), NULL);
+  add_to("die filed, layout filed elsewhere", 7, case_f, 4, drawer, LIFE_BYTES, ANSWER(16, 3), NULL);
+  add_to("layout filed", 9, case_c, 4, drawer, LIFE_BYTES, ANSWER(17, 3), NULL);
+  add_to("layout filed, numbered otherwise", 9, case_g, 4, drawer, LIFE_BYTES, ANSWER(17, 1), NULL);
+  add_to("layout filed, with room left", 9, case_e, 3, drawer, LIFE_BYTES, ANSWER(17, 2), NULL);
+  add_to("no room at all", 9, case_a, 4, drawer, LIFE_BYTES, ANSWER(18, 0), NULL);
+  add_to("a byte short of room", 9, case_a, 3, drawer, LIFE_BYTES - 1, ANSWER(18, 0), NULL);
+  add_to("no room in an empty drawer", 9, case_a, 0, drawer, RECORD - 1, ANSWER(18, 0), NULL);
 }
 
 static void refuse_counts(uint8_t *drawer) {
@@ -543,13 +520,13 @@ static void refuse_counts(uint8_t *drawer) {
   drawer_gives("five records in four", 5, drawer, LIFE_BYTES, 13, 0);
   drawer_gives("a count of 2^53, 2,048 times wraps to 0", UINT64_C(1) << 53, drawer, LIFE_BYTES, 13, 0);
   drawer_gives("the highest count", UINT64_MAX, drawer, LIFE_BYTES, 13, 0);
-  find_refused("five records in four", case_f, 5, drawer, LIFE_BYTES, 13, 0);
-  find_refused("the highest count", case_f, UINT64_MAX, drawer, LIFE_BYTES, 13, 0);
-  find_refused("the map comes before the count", case_h, 5, drawer, LIFE_BYTES, 5, 1);
-  add_refused("five records in four", 9, case_a, 5, drawer, LIFE_BYTES, 13, 0);
-  add_refused("the highest count", 9, case_a, UINT64_MAX, drawer, LIFE_BYTES, 13, 0);
-  add_refused("13 comes before die 0", 0, case_a, 5, drawer, LIFE_BYTES, 13, 0);
-  add_refused("the map comes before the count", 0, case_h, 5, drawer, LIFE_BYTES, 5, 1);
+  find_gives("five records in four", case_f, 5, drawer, LIFE_BYTES, ANSWER(13, 0));
+  find_gives("the highest count", case_f, UINT64_MAX, drawer, LIFE_BYTES, ANSWER(13, 0));
+  find_gives("the map comes before the count", case_h, 5, drawer, LIFE_BYTES, ANSWER(5, 1));
+  add_to("five records in four", 9, case_a, 5, drawer, LIFE_BYTES, ANSWER(13, 0), NULL);
+  add_to("the highest count", 9, case_a, UINT64_MAX, drawer, LIFE_BYTES, ANSWER(13, 0), NULL);
+  add_to("13 comes before die 0", 0, case_a, 5, drawer, LIFE_BYTES, ANSWER(13, 0), NULL);
+  add_to("the map comes before the count", 0, case_h, 5, drawer, LIFE_BYTES, ANSWER(5, 1), NULL);
 }
 
 static void check_life(void) {
@@ -566,7 +543,7 @@ static void ring_files(const char *what, unsigned n, unsigned m, uint32_t die, u
   shape_word(true, n, m, word);
   memset(drawer, 0xAB, length);
   add_gives(what, die, map_lent(&ring), 0, drawer, length, (struct second_map){n, m, word, n * m});
-  find_gives(what, map_lent(&ring), 1, drawer, length, die, 1);
+  find_gives(what, map_lent(&ring), 1, drawer, length, ANSWER(0, 0, die, 1));
 }
 
 // A record whose m and labels do not fit a byte; and one whose word leaves no filling at all.
@@ -614,10 +591,10 @@ static void good_pair(uint8_t *drawer) {
 // The hit is record 1, and a bad record 2 behind it still comes first.
 static void pair_is_bad(const char *what, uint8_t *drawer) {
   drawer_gives(what, 2, drawer, 2 * RECORD, 14, 2);
-  find_refused(what, case_f, 2, drawer, 2 * RECORD, 14, 2);
-  add_refused(what, 9, case_a, 2, drawer, 2 * RECORD, 14, 2);
+  find_gives(what, case_f, 2, drawer, 2 * RECORD, ANSWER(14, 2));
+  add_to(what, 9, case_a, 2, drawer, 2 * RECORD, ANSWER(14, 2), NULL);
   drawer_gives("the bad record isn't counted", 1, drawer, 2 * RECORD, 0, 0);
-  find_gives("the bad record isn't counted", case_f, 1, drawer, 2 * RECORD, 501, 1);
+  find_gives("the bad record isn't counted", case_f, 1, drawer, 2 * RECORD, ANSWER(0, 0, 501, 1));
 }
 
 static void check_byte_changes(void) {
@@ -660,12 +637,12 @@ static void check_bad_order(void) {
   drawer[5] = 1;
   drawer_gives("all records are bad", 3, drawer, 3 * RECORD, 14, 1);
   drawer_gives("13 comes before 14", 3, drawer, 3 * RECORD - 1, 13, 0);
-  find_refused("13 comes before 14", case_f, 3, drawer, 3 * RECORD - 1, 13, 0);
-  find_refused("14 comes before 15", case_a, 3, drawer, 3 * RECORD, 14, 1);
-  find_refused("the map comes before 14", case_k, 3, drawer, 3 * RECORD, 9, 2);
-  add_refused("14 comes before die 0", 0, case_a, 3, drawer, 3 * RECORD, 14, 1);
-  add_refused("14 comes before 18", 9, case_a, 3, drawer, 3 * RECORD, 14, 1);
-  add_refused("13 comes before 14", 9, case_a, 3, drawer, 3 * RECORD - 1, 13, 0);
+  find_gives("13 comes before 14", case_f, 3, drawer, 3 * RECORD - 1, ANSWER(13, 0));
+  find_gives("14 comes before 15", case_a, 3, drawer, 3 * RECORD, ANSWER(14, 1));
+  find_gives("the map comes before 14", case_k, 3, drawer, 3 * RECORD, ANSWER(9, 2));
+  add_to("14 comes before die 0", 0, case_a, 3, drawer, 3 * RECORD, ANSWER(14, 1), NULL);
+  add_to("14 comes before 18", 9, case_a, 3, drawer, 3 * RECORD, ANSWER(14, 1), NULL);
+  add_to("13 comes before 14", 9, case_a, 3, drawer, 3 * RECORD - 1, ANSWER(13, 0), NULL);
 }
 
 // The die number is all four of its bytes.
@@ -673,7 +650,7 @@ static void check_high_die(void) {
   uint8_t drawer[RECORD];
   put_record(drawer, 0x01000000, case_g);
   drawer_gives("a die number in its highest byte only", 1, drawer, RECORD, 0, 0);
-  find_gives("a die number in its highest byte only", case_f, 1, drawer, RECORD, 16777216, 1);
+  find_gives("a die number in its highest byte only", case_f, 1, drawer, RECORD, ANSWER(0, 0, 16777216, 1));
 }
 
 // ---- A full drawer ----
@@ -699,16 +676,16 @@ static void check_full_drawer(void) {
   memset(drawer + FULL_BYTES, 0xAB, RECORD);
   drawer_gives("1,024 records", 1024, drawer, FULL_BYTES, 0, 0);
   drawer_gives("1,025 records", 1025, drawer, length, 13, 0);
-  find_gives("chain C", case_c, 1024, drawer, FULL_BYTES, 5129, 130);
-  find_gives("ring E", case_e, 1024, drawer, FULL_BYTES, 5258, 259);
-  find_refused("D isn't filed", case_d, 1024, drawer, FULL_BYTES, 15, 0);
-  find_refused("1,025 records", case_c, 1025, drawer, length, 13, 0);
-  add_refused("a full drawer, with bytes to spare", 9, case_f, 1024, drawer, length, 18, 0);
-  add_refused("a full drawer, without", 9, case_f, 1024, drawer, FULL_BYTES, 18, 0);
-  add_refused("16 comes before 18", 6023, case_f, 1024, drawer, length, 16, 1024);
-  add_refused("die 0 comes before 18", 0, case_f, 1024, drawer, length, 16, 0);
-  add_refused("17 comes before 18", 9, case_c, 1024, drawer, length, 17, 130);
-  add_refused("1,025 records", 9, case_f, 1025, drawer, length, 13, 0);
+  find_gives("chain C", case_c, 1024, drawer, FULL_BYTES, ANSWER(0, 0, 5129, 130));
+  find_gives("ring E", case_e, 1024, drawer, FULL_BYTES, ANSWER(0, 0, 5258, 259));
+  find_gives("D isn't filed", case_d, 1024, drawer, FULL_BYTES, ANSWER(15, 0));
+  find_gives("1,025 records", case_c, 1025, drawer, length, ANSWER(13, 0));
+  add_to("a full drawer, with bytes to spare", 9, case_f, 1024, drawer, length, ANSWER(18, 0), NULL);
+  add_to("a full drawer, without", 9, case_f, 1024, drawer, FULL_BYTES, ANSWER(18, 0), NULL);
+  add_to("16 comes before 18", 6023, case_f, 1024, drawer, length, ANSWER(16, 1024), NULL);
+  add_to("die 0 comes before 18", 0, case_f, 1024, drawer, length, ANSWER(16, 0), NULL);
+  add_to("17 comes before 18", 9, case_c, 1024, drawer, length, ANSWER(17, 130), NULL);
+  add_to("1,025 records", 9, case_f, 1025, drawer, length, ANSWER(13, 0), NULL);
   free(drawer);
 }
 

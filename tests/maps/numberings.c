@@ -3,6 +3,8 @@
 
 #include <stdlib.h>
 
+#include "../second/second_inside.h"
+
 void shuffled_names(struct chance *chance, uint64_t m, uint16_t *to) {
   for (uint64_t d = 1; d <= m; d++) {
     to[d - 1] = (uint16_t)d;
@@ -90,13 +92,8 @@ struct start {
 
 static struct start starts[MOST_ENTRIES];
 
-// Less than 0, 0 or greater, as for qsort.
 static int compare_words(const struct start *one, const struct start *other) {
-  size_t at = 0;
-  while (at < one->length && one->word[at] == other->word[at]) {
-    at++;
-  }
-  return at == one->length ? 0 : one->word[at] < other->word[at] ? -1 : 1;
+  return second_compare_words(one->word, other->word, one->length);
 }
 
 static int compare_starts(const void *one, const void *other) {

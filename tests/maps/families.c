@@ -269,20 +269,9 @@ static void lay_product_dart(struct map *map, const struct product *shape, uint6
     uint64_t next = (backwards ? x + shape->across - 1 : x + 1) % shape->across;
     set_beta(map, 1, d, product_dart(shape, next, t));
   }
-  if (map->n >= 2) {
-    uint64_t other = shape->turned ? shape->across - 1 - x : x;
-    set_beta(map, 2, d, product_dart(shape, other, t ^ shape->masks[2]));
-  }
-  for (uint64_t j = 3; j <= map->n; j++) {
-    set_beta(map, j, d, product_dart(shape, x, t ^ shape->masks[j]));
-  }
-}
-
-static void lay_product(struct map *map, const struct product *shape) {
-  for (uint64_t x = 0; x < shape->across; x++) {
-    for (uint64_t t = 0; t < shape->along; t++) {
-      lay_product_dart(map, shape, x, t);
-    }
+  for (uint64_t j = 2; j <= map->n; j++) {
+    uint64_t place = j == 2 && shape->turned ? shape->across - 1 - x : x;
+    set_beta(map, j, d, product_dart(shape, place, t ^ shape->masks[j]));
   }
 }
 
@@ -311,7 +300,9 @@ static bool make_product(struct chance *chance, struct map *map) {
     struct product shape = any_product(chance, map->m);
     if (map->n <= 2 || shape.along >= 2) {
       *map = map_empty(map->n, map->m);
-      lay_product(map, &shape);
+      for (uint64_t at = 0; at < map->m; at++) {
+        lay_product_dart(map, &shape, at / shape.along, at % shape.along);
+      }
       if (map_refusal(map) == 0) {
         return true;
       }

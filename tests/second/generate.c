@@ -4,6 +4,7 @@
 
 #include <inttypes.h>
 #include <stdio.h>
+#include <stdlib.h>
 #include <string.h>
 
 // What is printed of each map, its check or its signature or both; which it is, the kind decides. Outputs have
@@ -265,20 +266,11 @@ static bool print_kind(const char *name, uint64_t seed, uint64_t count) {
   return false;
 }
 
-// Decimal digits only; false for anything else, a sign and an overlong number included.
+// Decimal digits only, and at most as many as always fit 64 bits.
 static bool read_number(const char *text, uint64_t *number) {
-  *number = 0;
-  for (const char *digit = text; *digit != '\0'; digit++) {
-    if (*digit < '0' || *digit > '9' || *number > UINT64_MAX / 10) {
-      return false;
-    }
-    uint64_t value = (uint64_t)(*digit - '0');
-    if (*number * 10 > UINT64_MAX - value) {
-      return false;
-    }
-    *number = *number * 10 + value;
-  }
-  return *text != '\0';
+  size_t digits = strspn(text, "0123456789");
+  *number = strtoull(text, NULL, 10);
+  return digits > 0 && digits < 20 && text[digits] == '\0';
 }
 
 int main(int argc, char **argv) {

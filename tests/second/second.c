@@ -226,24 +226,19 @@ struct second_verdict second_check(struct second_map map) {
 
 // ---- Labels, words, signature ----
 
-// A dart calls another when the other is one of its betas. Labels are given in the order of calls:
-// first by the label of the calling dart, then by the sewing it calls along. Both in one number.
-static unsigned call_number(const struct sewings *sewn, unsigned label, unsigned i) {
-  return label * (sewn->n + 1) + i;
-}
-
-// Beta0 and beta1 undo each other, every other sewing undoes itself.
-static unsigned undoing(unsigned i) {
-  return i < 2 ? 1 - i : i;
-}
-
-// Looks back from a dart to its labelled neighbours for the first of them to call it.
+// A dart calls another when the other is one of its betas. Labels are given in the order of calls: first by the
+// label of the calling dart, then by the sewing it calls along; both are put in one number. This looks back
+// from a dart to its labelled neighbours for the first of them to call it.
 static unsigned least_call(const struct sewings *sewn, const uint16_t *labels, unsigned dart) {
   unsigned least = NOT_CALLED;
   for (unsigned i = 0; i <= sewn->n; i++) {
-    unsigned caller_label = labels[sewn->beta[undoing(i)][dart]];
-    unsigned call = caller_label == 0 ? NOT_CALLED : call_number(sewn, caller_label, i);
-    least = call < least ? call : least;
+    // Beta0 and beta1 undo each other, every other sewing undoes itself.
+    unsigned undoing = i < 2 ? 1 - i : i;
+    unsigned caller_label = labels[sewn->beta[undoing][dart]];
+    unsigned call = caller_label * (sewn->n + 1) + i;
+    if (caller_label != 0 && call < least) {
+      least = call;
+    }
   }
   return least;
 }

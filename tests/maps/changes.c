@@ -16,35 +16,29 @@ bool map_mirrored(const struct map *map, struct map *changed) {
   return map_refusal(changed) == 0;
 }
 
-bool map_less_one_sewing(struct chance *chance, const struct map *map, struct map *changed) {
+// A sewing comes loose; or only one of a dart to itself does, and an unsewn dart is sewn to itself.
+static bool map_with_one_change(struct chance *chance, const struct map *map, bool only_ends, struct map *changed) {
   for (int tries = 0; tries < 40; tries++) {
     uint64_t i = 1 + chance_below(chance, map->n);
     uint64_t d = 1 + chance_below(chance, map->m);
+    bool loosened = beta(map, i, d) != 0 && (!only_ends || beta(map, i, d) == d);
     *changed = *map;
-    unsew(changed, i, d);
-    if (beta(map, i, d) != 0 && map_refusal(changed) == 0) {
+    if (loosened) {
+      unsew(changed, i, d);
+    }
+    if ((loosened || (only_ends && try_sew(changed, i, d, d))) && map_refusal(changed) == 0) {
       return true;
     }
   }
   return false;
 }
 
-// An unsewn dart becomes sewn to itself, or the other way round.
+bool map_less_one_sewing(struct chance *chance, const struct map *map, struct map *changed) {
+  return map_with_one_change(chance, map, false, changed);
+}
+
 bool map_with_loose_end_turned(struct chance *chance, const struct map *map, struct map *changed) {
-  for (int tries = 0; tries < 40; tries++) {
-    uint64_t i = 1 + chance_below(chance, map->n);
-    uint64_t d = 1 + chance_below(chance, map->m);
-    *changed = *map;
-    if (beta(map, i, d) == d) {
-      unsew(changed, i, d);
-    } else if (!try_sew(changed, i, d, d)) {
-      continue;
-    }
-    if (map_refusal(changed) == 0) {
-      return true;
-    }
-  }
-  return false;
+  return map_with_one_change(chance, map, true, changed);
 }
 
 // ---- Refused ----

@@ -53,28 +53,21 @@ static void find_orbit(const struct symmetry *symmetries, uint64_t count, uint64
   }
 }
 
-// The dart comes loose, or is sewn to itself and those that it was sewn to come loose.
-static void mark(struct map *map, uint64_t i, uint64_t dart, bool to_itself) {
-  if (to_itself) {
-    sew(map, i, dart, dart);
-  } else {
-    unsew(map, i, dart);
-  }
-}
-
-static bool same_tables(const struct map *one, const struct map *other) {
-  return memcmp(one->table, other->table, one->length * sizeof one->table[0]) == 0;
-}
-
+// Each dart comes loose, or is sewn to itself and those that it was sewn to come loose.
 static bool mark_orbit(struct chance *chance, const struct map *map, const struct darts *orbit,
                        bool all, struct map *marked) {
   uint64_t i = 1 + chance_below(chance, map->n);
   bool to_itself = chance_one_in(chance, 2);
   *marked = *map;
   for (size_t at = all ? 0 : 1; at < orbit->count; at++) {
-    mark(marked, i, orbit->darts[at], to_itself);
+    if (to_itself) {
+      sew(marked, i, orbit->darts[at], orbit->darts[at]);
+    } else {
+      unsew(marked, i, orbit->darts[at]);
+    }
   }
-  return map_refusal(marked) == 0 && !same_tables(marked, map);
+  bool changed = memcmp(marked->table, map->table, map->length * sizeof map->table[0]) != 0;
+  return changed && map_refusal(marked) == 0;
 }
 
 bool map_marked(struct chance *chance, const struct map *map, struct map *marked, uint64_t *kept) {

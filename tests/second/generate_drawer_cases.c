@@ -98,7 +98,7 @@ static struct drawer spoiled_drawer(struct chance *chance, enum spoil spoil, str
     if (spoil_record(chance, &drawer, bad, spoil)) {
       printf("# record %" PRIu64 " of %" PRIu64 " spoiled: %s; the layout was in record %" PRIu64
              "\n",
-             bad, drawer.count, spoil_name(spoil), hit);
+             bad, drawer.count, spoil_names[spoil], hit);
       return drawer;
     }
     drawer_free(&drawer);

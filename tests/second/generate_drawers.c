@@ -150,24 +150,21 @@ uint32_t unfiled_die(struct chance *chance, const struct drawer *drawer) {
 
 // ---- Faults ----
 
-const char *spoil_name(enum spoil spoil) {
-  static const char *const names[SPOIL_COUNT] = {
-      "die 0",
-      "n out of bounds",
-      "m of 0",
-      "m too large",
-      "zero byte set",
-      "first filling byte set",
-      "last filling byte set",
-      "some filling byte set",
-      "word not accepted",
-      "word accepted but not its own signature",
-      "word read with another n or m",
-      "die repeated",
-      "layout repeated",
-  };
-  return names[spoil];
-}
+const char *const spoil_names[SPOIL_COUNT] = {
+    "die 0",
+    "n out of bounds",
+    "m of 0",
+    "m too large",
+    "zero byte set",
+    "first filling byte set",
+    "last filling byte set",
+    "some filling byte set",
+    "word not accepted",
+    "word accepted but not its own signature",
+    "word read with another n or m",
+    "die repeated",
+    "layout repeated",
+};
 
 void spoil_zero(struct chance *chance, uint8_t *byte) {
   *byte = (uint8_t)(1 + chance_below(chance, 255));

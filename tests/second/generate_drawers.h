@@ -47,7 +47,7 @@ enum spoil {
   SPOIL_LAYOUT_REPEATED,
   SPOIL_COUNT
 };
-const char *spoil_name(enum spoil spoil);
+extern const char *const spoil_names[SPOIL_COUNT];
 
 // Makes the record bad; false where this spoil cannot do it, and then the drawer is as it was.
 bool spoil_record(struct chance *chance, struct drawer *drawer, uint64_t record, enum spoil spoil);

@@ -543,10 +543,7 @@ static bool record_alone_is_good(const uint8_t *record) {
   uint16_t table[MOST_NUMBERS];
   struct sewings sewn;
   struct signature signature;
-  if (judge_bounds(record_n(record), record_m(record)).number != 0) {
-    return false;
-  }
-  if (!record_frame_is_good(record)) {
+  if (judge_bounds(record_n(record), record_m(record)).number != 0 || !record_frame_is_good(record)) {
     return false;
   }
   struct second_map map = record_map(record, table);
@@ -705,24 +702,18 @@ struct second_filed second_add(uint32_t die, struct second_map map, uint64_t cou
 
 // ---- The layout lister ----
 
-// Judges 1 and 2, then 14, then 5 to 9; the sewings are whole where it is accepted.
-static struct second_verdict judge_listed(const uint8_t *record, uint64_t place,
-                                          struct sewings *sewn) {
-  uint16_t table[MOST_NUMBERS];
-  struct second_verdict bounds = judge_bounds(record_n(record), record_m(record));
-  if (bounds.number != 0) {
-    return bounds;
-  }
-  if (!record_frame_is_good(record)) {
-    return refused(14, place);
-  }
-  return judge_sewings(record_map(record, table), sewn);
-}
-
+// Judges 1 and 2, then 14, then 5 to 9.
 static void list_record(const uint8_t *record, uint64_t place, FILE *out) {
+  uint16_t table[MOST_NUMBERS];
   struct sewings sewn;
   struct signature signature;
-  struct second_verdict verdict = judge_listed(record, place, &sewn);
+  struct second_verdict verdict = judge_bounds(record_n(record), record_m(record));
+  if (verdict.number == 0 && !record_frame_is_good(record)) {
+    verdict = refused(14, place);
+  }
+  if (verdict.number == 0) {
+    verdict = judge_sewings(record_map(record, table), &sewn);
+  }
   fprintf(out, "%" PRIu32 " ", record_die(record));
   if (verdict.number != 0) {
     fprintf(out, "refused %u %" PRIu64 "\n", verdict.number, verdict.place);

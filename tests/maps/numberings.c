@@ -72,16 +72,6 @@ void order_from(const struct map *map, uint64_t start, struct map_order *order) 
   }
 }
 
-void word_from(const struct map *map, uint64_t start, uint16_t *word) {
-  struct map_order order;
-  order_from(map, start, &order);
-  for (size_t k = 0; k < order.length; k++) {
-    for (uint64_t i = 1; i <= map->n; i++) {
-      *word++ = order.labels[beta(map, i, order.darts[k])];
-    }
-  }
-}
-
 // ---- Numberings by words ----
 
 struct start {
@@ -107,7 +97,7 @@ static void sort_starts(const struct map *map) {
   for (uint64_t d = 1; d <= map->m; d++) {
     starts[d - 1].dart = (uint16_t)d;
     starts[d - 1].length = map->length;
-    word_from(map, d, starts[d - 1].word);
+    second_word(map_lent(map), d, starts[d - 1].word);
   }
   qsort(starts, (size_t)map->m, sizeof starts[0], compare_starts);
 }

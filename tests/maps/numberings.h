@@ -26,9 +26,6 @@ struct map_order {
 
 void order_from(const struct map *map, uint64_t start, struct map_order *order);
 
-// Writes the n * m numbers of the start's word.
-void word_from(const struct map *map, uint64_t start, uint16_t *word);
-
 // Starts are tried in the order of the dart numbers, so the numbering decides what they cost.
 enum numbering {
   AS_MADE,

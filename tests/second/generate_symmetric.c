@@ -157,7 +157,7 @@ static bool find_greater_word(struct chance *chance, const struct map *least, st
   uint64_t skipped = chance_below(chance, least->m);
   struct map word = *least;
   for (uint64_t k = 0; k < least->m && !(any && found); k++) {
-    word_from(least, 1 + (skipped + k) % least->m, word.table);
+    second_word(map_lent(least), 1 + (skipped + k) % least->m, word.table);
     if (second_compare_words(word.table, least->table, least->length) > 0 &&
         (!found || second_compare_words(word.table, greater->table, least->length) < 0)) {
       *greater = word;

@@ -1,5 +1,4 @@
-// Changes accepted maps: to others that are accepted, or by one or two faults that are found by
-// trying.
+// Changes accepted maps: to others that are accepted, or by one or two faults that are found by trying.
 #include "changes.h"
 
 #include "families.h"
@@ -49,8 +48,7 @@ const unsigned table_refusals[TABLE_REFUSALS] = {1, 2, 3, 5, 6, 7, 8, 9};
 static struct map with_wrong_n(struct chance *chance, uint64_t most_entries) {
   struct map map = any_accepted_map(chance, most_entries);
   const uint64_t wrong[] = {
-      0,          5, map.n + 256, map.n + 65536, map.n + ((uint64_t)1 << 32),
-      UINT64_MAX, 6, 257,         255,           map.n + ((uint64_t)1 << 63),
+      0, 5, map.n + 256, map.n + 65536, map.n + ((uint64_t)1 << 32), UINT64_MAX, 6, 257, 255, map.n + ((uint64_t)1 << 63),
   };
   map.n = wrong[chance_below(chance, sizeof wrong / sizeof wrong[0])];
   if (map.n == 0 && chance_one_in(chance, 2)) {
@@ -112,8 +110,7 @@ static struct map with_wrong_m(struct chance *chance, uint64_t most_entries) {
 static struct map with_wrong_length(struct chance *chance, uint64_t most_entries) {
   struct map map = any_accepted_map(chance, most_entries);
   size_t right = map.length;
-  const size_t wrong[] = {right - 1,     right + 1,         0, right + (size_t)map.m,
-                          (size_t)map.m, right + right / 2, 1, right + 255};
+  const size_t wrong[] = {right - 1, right + 1, 0, right + (size_t)map.m, (size_t)map.m, right + right / 2, 1, right + 255};
   do {
     map.length = wrong[chance_below(chance, sizeof wrong / sizeof wrong[0])];
   } while (map.length == right);

@@ -12,8 +12,8 @@ static void require_accepted(const struct map *map, const char *family) {
   if (number == 0) {
     return;
   }
-  fprintf(stderr, "generate: %s with n %llu, m %llu is refused with %u\n", family,
-          (unsigned long long)map->n, (unsigned long long)map->m, number);
+  fprintf(stderr, "generate: %s with n %llu, m %llu is refused with %u\n", family, (unsigned long long)map->n,
+          (unsigned long long)map->m, number);
   exit(3);
 }
 
@@ -69,8 +69,8 @@ static bool make_open_grid(struct chance *chance, struct map *map) {
 
 // ---- Grown maps ----
 
-// Sews the new dart to some earlier one. This always comes to an end: while maps only grow, no
-// chain of beta 1 closes, and a new dart may always be put before the first dart of a chain.
+// Sews the new dart to some earlier one. This always comes to an end: while maps only grow, no chain of beta 1 closes, and a
+// new dart may always be put before the first dart of a chain.
 static void attach(struct chance *chance, struct map *map, uint64_t newcomer) {
   for (;;) {
     uint64_t i = 1 + chance_below(chance, map->n);
@@ -118,8 +118,7 @@ static void find_face(const struct map *map, uint64_t d, struct face *face) {
   face->closed = beta(map, 1, last) == first;
 }
 
-static bool glue(struct map *map, uint64_t j, const struct face *one, const struct face *other,
-                 size_t turn) {
+static bool glue(struct map *map, uint64_t j, const struct face *one, const struct face *other, size_t turn) {
   struct map glued = *map;
   for (size_t k = 0; k < one->size; k++) {
     uint64_t d = one->darts[k];
@@ -175,8 +174,7 @@ static uint64_t polygon_size(struct chance *chance, uint64_t left, size_t loose_
   return size < left ? size : left;
 }
 
-static void lay_polygon(struct map *map, struct loose_darts *loose, uint64_t first, uint64_t size,
-                        bool closed) {
+static void lay_polygon(struct map *map, struct loose_darts *loose, uint64_t first, uint64_t size, bool closed) {
   for (uint64_t d = first; d < first + size; d++) {
     if (d + 1 < first + size) {
       sew(map, 1, d, d + 1);
@@ -188,8 +186,7 @@ static void lay_polygon(struct map *map, struct loose_darts *loose, uint64_t fir
 }
 
 // Takes one dart of the new polygon, which are the last ones of the list, and one of the others.
-static void join_polygon(struct chance *chance, struct map *map, struct loose_darts *loose,
-                         size_t before) {
+static void join_polygon(struct chance *chance, struct map *map, struct loose_darts *loose, size_t before) {
   size_t at = before + (size_t)chance_below(chance, loose->count - before);
   uint16_t own = loose->darts[at];
   size_t other_at = (size_t)chance_below(chance, before);
@@ -246,9 +243,8 @@ static bool make_double(struct chance *chance, struct map *map) {
   return compositions_hold(map);
 }
 
-// Darts are pairs: a place on a ring or line of `across` places, and a number below `along`. By
-// beta 1 the place moves, backwards for odd numbers. The other sewings change the number by a mask,
-// and beta 2 may turn the line about.
+// Darts are pairs: a place on a ring or line of `across` places, and a number below `along`. By beta 1 the place moves,
+// backwards for odd numbers. The other sewings change the number by a mask, and beta 2 may turn the line about.
 struct product {
   uint64_t across;
   uint64_t along;

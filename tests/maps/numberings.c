@@ -139,9 +139,8 @@ static void give_by_turns(struct names *names, size_t m) {
   }
 }
 
-// Words fall, so that the first start of each is less than all before it. The others of a word
-// come once the next lesser word is the best: that one goes farthest along with theirs, and none
-// of them ties.
+// Words fall, so that the first start of each is less than all before it. The others of a word come once the next lesser word
+// is the best: that one goes farthest along with theirs, and none of them ties.
 static void give_longest_runs(struct names *names, size_t m) {
   size_t end = m;
   size_t first = first_alike(end);

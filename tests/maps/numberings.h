@@ -7,8 +7,7 @@
 // to[d - 1] is the new name of dart d.
 struct map map_renamed(const struct map *map, const uint16_t *to);
 
-// Names by chance, in two ways of drawing: seeded lists keep to the first, measured maps to the
-// second.
+// Names by chance, in two ways of drawing: seeded lists keep to the first, measured maps to the second.
 void shuffled_names(struct chance *chance, uint64_t m, uint16_t *to);
 void inserted_names(struct chance *chance, uint64_t m, uint16_t *to);
 struct map map_shuffled(struct chance *chance, const struct map *map);
@@ -16,8 +15,7 @@ struct map map_inserted(struct chance *chance, const struct map *map);
 
 // ---- Words ----
 
-// labels[d] is the label of dart d from some start, with labels[0] 0; darts has them in the order
-// labelled.
+// labels[d] is the label of dart d from some start, with labels[0] 0; darts has them in the order labelled.
 struct map_order {
   size_t length;
   uint16_t darts[MOST_ENTRIES];

@@ -7,14 +7,12 @@
 
 enum form { RING, MARKED_RING, SQUARES, HEXAGONS, CUBES, PRISM, ANTIPRISM, REGULAR };
 
-// How a shape is made, and how many symmetries it has. A chiral one has no reflection: it is not
-// the same as its mirror image.
+// How a shape is made, and how many symmetries it has. A chiral one has no reflection: it is not the same as its mirror image.
 struct row {
   const char *name;
   enum form form;
   uint64_t n;
-  // Darts, period and marks of a ring; across, rows and shift of a torus; cubes in each direction;
-  // sides of a prism.
+  // Darts, period and marks of a ring; across, rows and shift of a torus; cubes in each direction; sides of a prism.
   uint64_t sizes[3];
   const char *turns;
   bool truncated;
@@ -52,9 +50,8 @@ static struct shape plain_shape(const struct row *row) {
   return (struct shape){row->name, 0, row->symmetries, row->truncated ? truncated_map(&map) : map};
 }
 
-// Each symmetry of a map is one of its double. A reflection, together with the change of sides, is
-// one too, and there are as many of these, or none. A double has the change of sides as a
-// reflection.
+// Each symmetry of a map is one of its double. A reflection, together with the change of sides, is one too, and there are as
+// many of these, or none. A double has the change of sides as a reflection.
 static struct shape doubled(const struct shape *shape, bool chiral) {
   struct shape twice = *shape;
   uint64_t n = shape->map.n + 1;
@@ -92,8 +89,8 @@ static const struct row rows[] = {
     {"ring with one mark", MARKED_RING, 2, {510, 510, 1}, .symmetries = 1},
     {"ring with two marks", MARKED_RING, 4, {255, 255, 3}, .symmetries = 1},
 
-    // Shifts by whole faces, and those turns of the plane that keep the lattice of places rolled
-    // up to one: half a turn always, a quarter or a sixth only where the lattice is as regular.
+    // Shifts by whole faces, and those turns of the plane that keep the lattice of places rolled up to one: half a turn always,
+    // a quarter or a sixth only where the lattice is as regular.
     {"torus of squares", SQUARES, 2, {1, 1, 0}, .symmetries = 4},
     {"torus of squares", SQUARES, 2, {2, 1, 0}, .symmetries = 4},
     {"torus of squares", SQUARES, 2, {2, 2, 0}, .symmetries = 16},
@@ -135,8 +132,8 @@ static const struct row rows[] = {
     {"torus of cubes", CUBES, 3, {3, 2, 2}, .symmetries = 96},
     {"torus of cubes", CUBES, 3, {14, 1, 1}, .symmetries = 112},
 
-    // Turns about the axis, and half turns that change the caps. A prism of four sides is a cube,
-    // and an antiprism of three an octahedron.
+    // Turns about the axis, and half turns that change the caps. A prism of four sides is a cube, and an antiprism of three an
+    // octahedron.
     {"prism", PRISM, 2, {3}, .symmetries = 6},
     {"prism", PRISM, 2, {4}, .symmetries = 24},
     {"prism", PRISM, 2, {5}, .symmetries = 10},
@@ -159,8 +156,8 @@ static const struct row rows[] = {
     {"24 heptagons", REGULAR, 2, .turns = "2345671 1274653", .symmetries = 168},
     {"72 heptagons", REGULAR, 2, .turns = "234567189 148279536", .symmetries = 504},
 
-    // Cutting the corners leaves the symmetries: what was a face has more sides than what was a
-    // corner, so none takes the one to the other.
+    // Cutting the corners leaves the symmetries: what was a face has more sides than what was a corner, so none takes the one
+    // to the other.
     {"truncated tetrahedron", REGULAR, 2, .turns = "2314 2143", .truncated = true, .symmetries = 12},
     {"truncated cube", REGULAR, 2, .turns = "2341 2134", .truncated = true, .symmetries = 24},
     {"truncated octahedron", REGULAR, 2, .turns = "2314 1243", .truncated = true, .symmetries = 24},
@@ -168,8 +165,8 @@ static const struct row rows[] = {
     {"truncated icosahedron", REGULAR, 2, .turns = "23145 45312", .truncated = true, .symmetries = 60},
     {"truncated torus", SQUARES, 2, {7, 6, 0}, .truncated = true, .symmetries = 84},
 
-    // Closed maps of n = 3 and n = 4: the outsides of the simplex, of the cube of four dimensions
-    // and of its dual, that cube's opposite sides sewn, and sewings that all commute.
+    // Closed maps of n = 3 and n = 4: the outsides of the simplex, of the cube of four dimensions and of its dual, that cube's
+    // opposite sides sewn, and sewings that all commute.
     {"5 tetrahedra", REGULAR, 3, .turns = "23145 21435 21354", .symmetries = 60},
     {"8 cubes", REGULAR, 3, .turns = "61342578 53241768 52431687", .symmetries = 192},
     {"16 tetrahedra", REGULAR, 3, .turns = "13425786 21436587 52431687", .symmetries = 192},
@@ -181,8 +178,8 @@ static const struct row rows[] = {
 static void put_shape(struct shapes *all, const struct shape *shape) {
   unsigned number = map_refusal(&shape->map);
   if (number != 0 || all->count == MOST_SHAPES) {
-    fprintf(stderr, "generate: %s, doubled %u times, is refused with %u or is one too many\n",
-            shape->name, (unsigned)shape->doubled, number);
+    fprintf(stderr, "generate: %s, doubled %u times, is refused with %u or is one too many\n", shape->name,
+            (unsigned)shape->doubled, number);
     exit(3);
   }
   all->shapes[all->count++] = *shape;

@@ -1,5 +1,4 @@
-// Prints test cases, or records for the lister: generate SEED KIND [COUNT]. The arguments alone
-// decide every byte.
+// Prints test cases, or records for the lister: generate SEED KIND [COUNT]. The arguments alone decide every byte.
 #include "generate.h"
 
 #include <inttypes.h>
@@ -7,8 +6,8 @@
 #include <stdlib.h>
 #include <string.h>
 
-// What is printed of each map, its check or its signature or both; which it is, the kind decides. Outputs have
-// a chance of their own, so that the maps of one seed are the same ones for both calls.
+// What is printed of each map, its check or its signature or both; which it is, the kind decides. Outputs have a chance of
+// their own, so that the maps of one seed are the same ones for both calls.
 enum { CHECKS = 1, SIGNS = 2 };
 static unsigned printed;
 static struct chance outputs;
@@ -81,8 +80,7 @@ static void print_large(struct chance *chance) {
       if (!family_map(chance, family, size.n, size.m, &map)) {
         continue;
       }
-      printf("# n=%" PRIu64 ", m=%" PRIu64 ": %s, then renumbered\n", size.n, size.m,
-             family_name(family));
+      printf("# n=%" PRIu64 ", m=%" PRIu64 ": %s, then renumbered\n", size.n, size.m, family_name(family));
       print_calls_on(&map, OUTPUT_EXACT);
       map = map_shuffled(chance, &map);
       print_calls_on(&map, chance_one_in(chance, 8) ? OUTPUT_SHORT : OUTPUT_LONGER);
@@ -106,8 +104,7 @@ static void print_tiny(struct chance *chance) {
   for (size_t at = 0; at < sizeof tiny_sizes / sizeof tiny_sizes[0]; at++) {
     struct size size = tiny_sizes[at].size;
     uint16_t most = tiny_sizes[at].most;
-    printf("# every table with n=%" PRIu64 ", m=%" PRIu64 " and entries up to %u\n", size.n, size.m,
-           (unsigned)most);
+    printf("# every table with n=%" PRIu64 ", m=%" PRIu64 " and entries up to %u\n", size.n, size.m, (unsigned)most);
     struct map map = map_empty(size.n, size.m);
     do {
       print_calls_on(&map, OUTPUT_EXACT);
@@ -141,9 +138,8 @@ static const struct named_map named_maps[] = {
     {"K: 9 at 2", 1, 2, {1, 2}},
     {"L: 8 at 1", 3, 3, {0, 0, 2, 3, 0, 1, 0, 0, 0}},
     {"M: accepted", 3, 3, {0, 0, 2, 0, 0, 1, 2, 0, 0}},
-    {"figure 1 of the paper: accepted", 2, 18, {2,  15, 3,  14, 4,  18, 5,  17, 6,  10, 7,  9,
-                                                1,  8,  9,  7,  10, 6,  11, 5,  8,  12, 13, 11,
-                                                14, 16, 15, 2,  12, 1,  17, 13, 18, 4,  16, 3}},
+    {"figure 1 of the paper: accepted", 2, 18, {2,  15, 3, 14, 4,  18, 5,  17, 6,  10, 7,  9, 1,  8,  9,  7, 10, 6,
+                                                11, 5,  8, 12, 13, 11, 14, 16, 15, 2,  12, 1, 17, 13, 18, 4, 16, 3}},
     {"n of 0: 1 at 0", 0, 2, {0}},
     {"n of 5: 1 at 0", 5, 2, {2, 0, 0, 0, 0, 0, 0, 0, 0, 0}},
 };
@@ -177,16 +173,14 @@ static void print_bench(struct chance *chance) {
   }
   for (size_t at = 0; at < sizeof bench_sizes / sizeof bench_sizes[0]; at++) {
     struct size size = bench_sizes[at];
-    printf("# n=%" PRIu64 ", m=%" PRIu64 ": %s\n", size.n, size.m,
-           size.n * size.m <= MOST_ENTRIES ? "accepted" : "2 at 0");
+    printf("# n=%" PRIu64 ", m=%" PRIu64 ": %s\n", size.n, size.m, size.n * size.m <= MOST_ENTRIES ? "accepted" : "2 at 0");
     struct map map = any_map_of(chance, size);
     print_calls_on(&map, OUTPUT_EXACT);
   }
   print_mixture_of(chance, BENCH_MIXTURE, BENCH_ENTRIES);
 }
 
-static void print_named_match(struct chance *chance, const char *comment, struct map first,
-                              struct map second) {
+static void print_named_match(struct chance *chance, const char *comment, struct map first, struct map second) {
   printf("# %s\n", comment);
   print_match(chance, &first, &second, OUTPUT_EXACT);
 }
@@ -206,8 +200,7 @@ static void print_bench_matches(struct chance *chance) {
   print_named_match(chance, "figure 1 renumbered", figure, map_shuffled(chance, &figure));
   for (size_t at = 0; at < sizeof bench_sizes / sizeof bench_sizes[0]; at++) {
     struct map map = any_map_of(chance, bench_sizes[at]);
-    print_named_match(chance, "one of the large sizes, renumbered", map,
-                      map_shuffled(chance, &map));
+    print_named_match(chance, "one of the large sizes, renumbered", map, map_shuffled(chance, &map));
   }
   print_match_cases(chance, BENCH_MATCHES, BENCH_ENTRIES);
 }

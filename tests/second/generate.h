@@ -13,8 +13,7 @@ enum output_length any_output_length(struct chance *chance);
 
 void print_check(const struct map *map);
 void print_sign(struct chance *chance, const struct map *map, enum output_length length);
-void print_match(struct chance *chance, const struct map *first, const struct map *second,
-                 enum output_length length);
+void print_match(struct chance *chance, const struct map *first, const struct map *second, enum output_length length);
 void print_judge(const struct map *first, const struct map *second, uint16_t *list, size_t length);
 
 // `count` cases are dealt out to groups that weigh `total` in all; `before` is the weight of the groups dealt to.
@@ -35,8 +34,8 @@ void print_match_cases(struct chance *chance, uint64_t count, uint64_t most_entr
 void print_judge_cases(struct chance *chance, uint64_t count);
 void print_drawer_cases(struct chance *chance, uint64_t count);
 
-// All four calls on drawers of each kind: every size, every fault in the first, a middle and the
-// last record, every wrong count, and lent bytes that are too short.
+// All four calls on drawers of each kind: every size, every fault in the first, a middle and the last record, every wrong
+// count, and lent bytes that are too short.
 void print_each_drawer(struct chance *chance);
 
 // Matches and lists of the largest sizes; all of the smallest maps against each other.
@@ -46,11 +45,9 @@ void print_tiny_pairs(struct chance *chance);
 // Matches of a map with a renumbered copy, with another map and with one sewing changed, and lists.
 void print_pairs_of(struct chance *chance, const struct map *map);
 
-// Symmetric maps in so many numberings, then as many of each with marks that some of its symmetries
-// keep; large ones in fewer.
+// Symmetric maps in so many numberings, then as many of each with marks that some of its symmetries keep; large ones in fewer.
 void print_symmetric(struct chance *chance, uint64_t numberings);
-// Each of these maps against its mirror image; small ones against copies, changed maps and each
-// other, too.
+// Each of these maps against its mirror image; small ones against copies, changed maps and each other, too.
 void print_symmetric_pairs(struct chance *chance);
 // Drawers with all these layouts, good ones and ones with a word that is not the least.
 void print_symmetric_drawers(struct chance *chance);

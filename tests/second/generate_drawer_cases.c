@@ -6,15 +6,13 @@
 #include "generate_drawers.h"
 
 void print_call(enum call call, uint32_t die, const struct map *map, const struct drawer *drawer) {
-  print_case(&(struct test_case){.call = call, .die = die, .first = map_lent(map),
-                                 .count = drawer->count,
-                                 .drawer = {drawer->bytes, drawer->length}});
+  print_case(&(struct test_case){
+      .call = call, .die = die, .first = map_lent(map), .count = drawer->count, .drawer = {drawer->bytes, drawer->length}});
 }
 
 static const enum call drawer_calls[DRAWER_CALLS] = {DRAWER, FIND, RECORD, ADD};
 
-uint64_t print_calls(uint64_t most, uint32_t die, const struct map *map,
-                     const struct drawer *drawer) {
+uint64_t print_calls(uint64_t most, uint32_t die, const struct map *map, const struct drawer *drawer) {
   uint64_t printed = 0;
   for (; printed < DRAWER_CALLS && printed < most; printed++) {
     print_call(drawer_calls[printed], die, map, drawer);
@@ -23,8 +21,7 @@ uint64_t print_calls(uint64_t most, uint32_t die, const struct map *map,
 }
 
 static size_t any_spare(struct chance *chance) {
-  static const size_t spares[] = {
-      0, 1, RECORD_BYTES - 1, RECORD_BYTES, RECORD_BYTES + 5, 2 * RECORD_BYTES};
+  static const size_t spares[] = {0, 1, RECORD_BYTES - 1, RECORD_BYTES, RECORD_BYTES + 5, 2 * RECORD_BYTES};
   return spares[chance_below(chance, sizeof spares / sizeof spares[0])];
 }
 
@@ -96,9 +93,8 @@ static struct drawer spoiled_drawer(struct chance *chance, enum spoil spoil, str
     uint64_t hit = 1 + chance_below(chance, drawer.count);
     *wanted = filed_map(chance, &drawer, hit);
     if (spoil_record(chance, &drawer, bad, spoil)) {
-      printf("# record %" PRIu64 " of %" PRIu64 " spoiled: %s; the layout was in record %" PRIu64
-             "\n",
-             bad, drawer.count, spoil_names[spoil], hit);
+      printf("# record %" PRIu64 " of %" PRIu64 " spoiled: %s; the layout was in record %" PRIu64 "\n", bad, drawer.count,
+             spoil_names[spoil], hit);
       return drawer;
     }
     drawer_free(&drawer);
@@ -233,15 +229,15 @@ struct full_call {
 };
 
 static const struct full_call full_calls[] = {
-    {ADD, MOST_RECORDS, false, false},    {ADD, MOST_RECORDS - 1, false, false},  {ADD, MOST_RECORDS, true, false},
-    {ADD, MOST_RECORDS, false, true},     {FIND, MOST_RECORDS, false, true},      {DRAWER, MOST_RECORDS + 1, false, true},
-    {DRAWER, MOST_RECORDS, false, true},  {RECORD, MOST_RECORDS, false, true},    {FIND, MOST_RECORDS - 1, false, true},
+    {ADD, MOST_RECORDS, false, false},   {ADD, MOST_RECORDS - 1, false, false}, {ADD, MOST_RECORDS, true, false},
+    {ADD, MOST_RECORDS, false, true},    {FIND, MOST_RECORDS, false, true},     {DRAWER, MOST_RECORDS + 1, false, true},
+    {DRAWER, MOST_RECORDS, false, true}, {RECORD, MOST_RECORDS, false, true},   {FIND, MOST_RECORDS - 1, false, true},
 };
 
 enum { FULL_CALLS = sizeof full_calls / sizeof full_calls[0] };
 
-// Behind the 1,024 records there are the bytes of one more, so it is not room that is lacking. After all
-// the calls comes a drawer whose last record has the die of the first.
+// Behind the 1,024 records there are the bytes of one more, so it is not room that is lacking. After all the calls comes a
+// drawer whose last record has the die of the first.
 static void print_full(struct chance *chance, struct drawer *drawer, uint64_t turn) {
   struct map unfiled = unfiled_map(chance, drawer);
   struct map last = filed_map(chance, drawer, MOST_RECORDS);

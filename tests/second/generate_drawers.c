@@ -184,8 +184,7 @@ bool filling_places(struct chance *chance, size_t numbers, size_t places[3]) {
 static void spoil_sizes(struct chance *chance, uint8_t *record) {
   uint64_t entries = record_map(record).length;
   if (chance_one_in(chance, 2)) {
-    put_16(record + RECORD_M_AT,
-           (uint64_t)get_16(record + RECORD_M_AT) + (chance_one_in(chance, 2) ? 1 : UINT64_MAX));
+    put_16(record + RECORD_M_AT, (uint64_t)get_16(record + RECORD_M_AT) + (chance_one_in(chance, 2) ? 1 : UINT64_MAX));
     return;
   }
   uint64_t n = 1 + chance_below(chance, 4);
@@ -233,8 +232,7 @@ static void spoil_once(struct chance *chance, struct drawer *drawer, uint64_t re
     if (record >= 2) {
       const uint8_t *earlier = drawer_record(drawer, 1 + chance_below(chance, record - 1));
       bool die = spoil == SPOIL_DIE_REPEATED;
-      memcpy(own + (die ? 0 : RECORD_N_AT), earlier + (die ? 0 : RECORD_N_AT),
-             die ? RECORD_N_AT : RECORD_BYTES - RECORD_N_AT);
+      memcpy(own + (die ? 0 : RECORD_N_AT), earlier + (die ? 0 : RECORD_N_AT), die ? RECORD_N_AT : RECORD_BYTES - RECORD_N_AT);
     }
     break;
   default:

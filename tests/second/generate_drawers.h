@@ -15,8 +15,8 @@ struct drawer {
 // Records count from 1.
 uint8_t *drawer_record(const struct drawer *drawer, uint64_t record);
 
-// Both have `spare` bytes behind the counted records, of chance where `garbage` is set. The packed
-// one is filed without the reference calls, which take long on many records, and checked once.
+// Both have `spare` bytes behind the counted records, of chance where `garbage` is set. The packed one is filed without the
+// reference calls, which take long on many records, and checked once.
 struct drawer good_drawer(struct chance *chance, uint64_t count, size_t spare, bool garbage);
 struct drawer packed_drawer(struct chance *chance, uint64_t count, size_t spare);
 void drawer_free(struct drawer *drawer);
@@ -58,17 +58,15 @@ void spoil_zero(struct chance *chance, uint8_t *byte);
 // The filling's first byte behind so many numbers, its last one, and some other; false where it has none.
 bool filling_places(struct chance *chance, size_t numbers, size_t places[3]);
 
-// Counts that are above 1,024 or want more bytes than a drawer of a few records has: those that
-// narrow numbers would take for the true one are among them, and those whose bytes would wrap to
-// nothing or to one record.
+// Counts that are above 1,024 or want more bytes than a drawer of a few records has: those that narrow numbers would take for
+// the true one are among them, and those whose bytes would wrap to nothing or to one record.
 enum { BAD_COUNTS = 11 };
 uint64_t bad_count(uint64_t turn, const struct drawer *drawer);
 
-// Prints one call on the drawer; or up to so many in turn, the check, search, the record handed
-// back and filing, and says how many.
+// Prints one call on the drawer; or up to so many in turn, the check, search, the record handed back and filing, and says how
+// many.
 enum { DRAWER_CALLS = 4 };
 void print_call(enum call call, uint32_t die, const struct map *map, const struct drawer *drawer);
-uint64_t print_calls(uint64_t most, uint32_t die, const struct map *map,
-                     const struct drawer *drawer);
+uint64_t print_calls(uint64_t most, uint32_t die, const struct map *map, const struct drawer *drawer);
 
 #endif

@@ -5,8 +5,8 @@
 #include "generate.h"
 #include "generate_drawers.h"
 
-// A size that all drawers below have but the smallest and the full ones: first, middle and last
-// record differ, and there are records between them.
+// A size that all drawers below have but the smallest and the full ones: first, middle and last record differ, and there are
+// records between them.
 enum { SOME_RECORDS = 7, MIDDLE_RECORD = 4 };
 
 static struct drawer some_drawer(struct chance *chance) {
@@ -31,8 +31,8 @@ static void print_size(struct chance *chance, uint64_t count) {
   drawer_free(&drawer);
 }
 
-// The layout is one before the fault where there is one, so that a search that stops at its hit is
-// found out, and then one behind it.
+// The layout is one before the fault where there is one, so that a search that stops at its hit is found out, and then one
+// behind it.
 static void print_fault(struct chance *chance, enum spoil spoil, uint64_t bad) {
   for (int tries = 0; tries < 20; tries++) {
     struct drawer drawer = some_drawer(chance);

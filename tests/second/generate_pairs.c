@@ -179,8 +179,7 @@ static const struct group match_groups[] = {
     {"the first map refused", 9, pair_first_refused, mostly_exact},
     {"the second map refused", 9, pair_second_refused, mostly_exact},
     {"both maps refused", 4, pair_both_refused, mostly_exact},
-    {"the output too short, every second time with the second map refused too", 4, pair_second_refused_by_turns,
-     always_short},
+    {"the output too short, every second time with the second map refused too", 4, pair_second_refused_by_turns, always_short},
 };
 
 void print_match_cases(struct chance *chance, uint64_t count, uint64_t most_entries) {

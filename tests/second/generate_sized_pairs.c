@@ -60,8 +60,8 @@ void print_large_pairs(struct chance *chance) {
       if (stands_again(family) || !family_map(chance, family, size.n, size.m, &map)) {
         continue;
       }
-      printf("# n=%" PRIu64 ", m=%" PRIu64 ": %s, against a copy, another map and a near twin\n",
-             size.n, size.m, family_name(family));
+      printf("# n=%" PRIu64 ", m=%" PRIu64 ": %s, against a copy, another map and a near twin\n", size.n, size.m,
+             family_name(family));
       // Dart 1 is anywhere then, and not always at an end.
       map = map_shuffled(chance, &map);
       print_pairs_of(chance, &map);

@@ -15,9 +15,8 @@ static bool is_large(const struct map *map) {
 }
 
 static void print_comment(const struct shape *shape, const char *what) {
-  printf("# %s, doubled %" PRIu64 " times, n=%" PRIu64 ", m=%" PRIu64 ", %" PRIu64
-         " symmetries: %s\n",
-         shape->name, shape->doubled, shape->map.n, shape->map.m, shape->symmetries, what);
+  printf("# %s, doubled %" PRIu64 " times, n=%" PRIu64 ", m=%" PRIu64 ", %" PRIu64 " symmetries: %s\n", shape->name,
+         shape->doubled, shape->map.n, shape->map.m, shape->symmetries, what);
 }
 
 // Darts of one word stand in an order of chance.
@@ -96,8 +95,7 @@ static void print_marked_matches(struct chance *chance, const struct map *map) {
   struct map marked;
   struct map marked_otherwise;
   uint64_t kept;
-  if (map_marked(chance, map, &marked, &kept) &&
-      map_marked(chance, map, &marked_otherwise, &kept)) {
+  if (map_marked(chance, map, &marked, &kept) && map_marked(chance, map, &marked_otherwise, &kept)) {
     print_match_of(chance, map, &marked);
     print_match_of(chance, &marked, &marked_otherwise);
     print_match_of(chance, &marked, &marked);
@@ -149,8 +147,8 @@ static void file_if_new(struct chance *chance, struct drawer *drawer, const stru
   drawer_add(drawer, unfiled_die(chance, drawer), &renumbered);
 }
 
-// A word of the same map that is not the least: mostly the next one, so that few starts are better
-// than dart 1. False where all words are equal.
+// A word of the same map that is not the least: mostly the next one, so that few starts are better than dart 1. False where all
+// words are equal.
 static bool find_greater_word(struct chance *chance, const struct map *least, struct map *greater) {
   bool any = chance_one_in(chance, 4);
   bool found = false;

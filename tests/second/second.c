@@ -132,8 +132,8 @@ static void join(uint16_t *head, unsigned one, unsigned other) {
   head[other] = (uint16_t)low;
 }
 
-// Every sewing can be walked back (beta1 by beta0, the others by themselves), so the darts reached
-// from dart 1 are the darts joined with it.
+// Every sewing can be walked back (beta1 by beta0, the others by themselves), so the darts reached from dart 1 are the darts
+// joined with it.
 static unsigned dart_not_reached(const struct sewings *sewn) {
   uint16_t head[MOST_NUMBERS + 1];
   for (unsigned dart = 0; dart <= sewn->m; dart++) {
@@ -154,8 +154,8 @@ static unsigned dart_not_reached(const struct sewings *sewn) {
   return 0;
 }
 
-// Wants a map of accepted size whose entries are all at most m. Beta0 means something only where no two darts
-// clash: beta0(d) is the dart that beta1 takes to d, or 0.
+// Wants a map of accepted size whose entries are all at most m. Beta0 means something only where no two darts clash: beta0(d)
+// is the dart that beta1 takes to d, or 0.
 static void read_sewings(struct second_map map, struct sewings *sewn) {
   memset(sewn, 0, sizeof *sewn);
   sewn->n = (unsigned)map.n;
@@ -199,8 +199,7 @@ static struct second_verdict judge_sewings(struct second_map map, struct sewings
 }
 
 // Judges 1 to 9 of a map with a lent output, of which so many numbers are needed.
-static struct second_verdict judge_for_output(struct second_map map, uint64_t needed, size_t out_length,
-                                              struct sewings *sewn) {
+static struct second_verdict judge_for_output(struct second_map map, uint64_t needed, size_t out_length, struct sewings *sewn) {
   struct second_verdict bounds = judge_bounds(map.n, map.m);
   if (bounds.number != 0) {
     return bounds;
@@ -226,9 +225,9 @@ struct second_verdict second_check(struct second_map map) {
 
 // ---- Labels, words, signature ----
 
-// A dart calls another when the other is one of its betas. Labels are given in the order of calls: first by the
-// label of the calling dart, then by the sewing it calls along; both are put in one number. This looks back
-// from a dart to its labelled neighbours for the first of them to call it.
+// A dart calls another when the other is one of its betas. Labels are given in the order of calls: first by the label of the
+// calling dart, then by the sewing it calls along; both are put in one number. This looks back from a dart to its labelled
+// neighbours for the first of them to call it.
 static unsigned least_call(const struct sewings *sewn, const uint16_t *labels, unsigned dart) {
   unsigned least = NOT_CALLED;
   for (unsigned i = 0; i <= sewn->n; i++) {
@@ -250,8 +249,7 @@ struct layer {
 };
 
 // Gathers the neighbours of a layer not met before, each once, in no order that matters.
-static void gather(const struct sewings *sewn, const struct layer *layer, bool *met,
-                   struct layer *next) {
+static void gather(const struct sewings *sewn, const struct layer *layer, bool *met, struct layer *next) {
   next->length = 0;
   for (unsigned k = 0; k < layer->length; k++) {
     for (unsigned i = 0; i <= sewn->n; i++) {
@@ -391,8 +389,7 @@ static unsigned sent_to(const uint16_t *list, unsigned dart) {
   return dart == 0 ? 0 : list[dart - 1];
 }
 
-static unsigned dart_not_matched(const struct sewings *first, const struct sewings *second,
-                                 const uint16_t *list) {
+static unsigned dart_not_matched(const struct sewings *first, const struct sewings *second, const uint16_t *list) {
   for (unsigned dart = 1; dart <= first->m; dart++) {
     for (unsigned i = 1; i <= first->n; i++) {
       if (sent_to(list, first->beta[i][dart]) != second->beta[i][sent_to(list, dart)]) {
@@ -404,8 +401,7 @@ static unsigned dart_not_matched(const struct sewings *first, const struct sewin
 }
 
 // Judges 11 and 12 of a list of m numbers.
-static struct second_verdict judge_list(const struct sewings *first, const struct sewings *second,
-                                        const uint16_t *list) {
+static struct second_verdict judge_list(const struct sewings *first, const struct sewings *second, const uint16_t *list) {
   unsigned dart = dart_sent_badly(list, first->m);
   if (dart != 0) {
     return refused(11, dart);
@@ -417,10 +413,9 @@ static struct second_verdict judge_list(const struct sewings *first, const struc
   return accepted();
 }
 
-// Sends dart 1 to `image` and every other dart where the sewings then force it to go. A dart whose
-// place is sewn to nothing stays at 0, which no judged list allows.
-static void force_list(const struct sewings *first, const struct sewings *second, unsigned image,
-                       uint16_t *list) {
+// Sends dart 1 to `image` and every other dart where the sewings then force it to go. A dart whose place is sewn to nothing
+// stays at 0, which no judged list allows.
+static void force_list(const struct sewings *first, const struct sewings *second, unsigned image, uint16_t *list) {
   uint16_t waiting[MOST_NUMBERS];
   unsigned waiting_length = 1;
   memset(list, 0, first->m * sizeof list[0]);
@@ -440,8 +435,8 @@ static void force_list(const struct sewings *first, const struct sewings *second
 }
 
 // Judges the first map with an output of which so many numbers are needed, then the second, then 10 by their sizes.
-static struct second_verdict judge_pair(struct second_map first, struct second_map second, uint64_t needed,
-                                        size_t out_length, struct sewings *first_sewn, struct sewings *second_sewn) {
+static struct second_verdict judge_pair(struct second_map first, struct second_map second, uint64_t needed, size_t out_length,
+                                        struct sewings *first_sewn, struct sewings *second_sewn) {
   struct second_verdict verdict = judge_for_output(first, needed, out_length, first_sewn);
   if (verdict.number != 0) {
     return verdict;
@@ -564,8 +559,7 @@ static bool same_layout(const uint8_t *one, const uint8_t *other) {
   return memcmp(one + WORD_AT, other + WORD_AT, 2 * n * m) == 0;
 }
 
-static void write_record(uint8_t *record, uint32_t die, const struct sewings *sewn,
-                         const struct signature *signature) {
+static void write_record(uint8_t *record, uint32_t die, const struct sewings *sewn, const struct signature *signature) {
   memset(record, 0, RECORD_BYTES);
   write_little(record, 4, die);
   write_little(record + 4, 1, sewn->n);
@@ -607,8 +601,7 @@ static bool record_is_bad(const uint8_t *drawer, uint64_t record) {
   if (!record_alone_is_good(bytes)) {
     return true;
   }
-  return record_with_die(drawer, record - 1, record_die(bytes)) != 0 ||
-         record_with_layout(drawer, record - 1, bytes) != 0;
+  return record_with_die(drawer, record - 1, record_die(bytes)) != 0 || record_with_layout(drawer, record - 1, bytes) != 0;
 }
 
 struct second_verdict second_drawer(uint64_t count, const uint8_t *drawer, size_t drawer_length) {
@@ -625,9 +618,8 @@ struct second_verdict second_drawer(uint64_t count, const uint8_t *drawer, size_
 }
 
 // Judges the map, then the drawer, and makes the record that filing the map would write.
-static struct second_verdict judge_and_make(struct second_map map, uint32_t die, uint64_t count,
-                                            const uint8_t *drawer, size_t drawer_length,
-                                            uint8_t made[RECORD_BYTES]) {
+static struct second_verdict judge_and_make(struct second_map map, uint32_t die, uint64_t count, const uint8_t *drawer,
+                                            size_t drawer_length, uint8_t made[RECORD_BYTES]) {
   struct sewings sewn;
   struct signature signature;
   struct second_verdict verdict = judge_map(map, &sewn);
@@ -643,8 +635,7 @@ static struct second_verdict judge_and_make(struct second_map map, uint32_t die,
   return accepted();
 }
 
-struct second_found second_find(struct second_map map, uint64_t count, const uint8_t *drawer,
-                                size_t drawer_length) {
+struct second_found second_find(struct second_map map, uint64_t count, const uint8_t *drawer, size_t drawer_length) {
   uint8_t wanted[RECORD_BYTES];
   struct second_verdict verdict = judge_and_make(map, 0, count, drawer, drawer_length, wanted);
   if (verdict.number != 0) {
@@ -657,8 +648,7 @@ struct second_found second_find(struct second_map map, uint64_t count, const uin
   return (struct second_found){0, 0, record_die(record_at(drawer, record)), record};
 }
 
-struct second_part second_record(struct second_map map, uint64_t count, const uint8_t *drawer,
-                                 size_t drawer_length) {
+struct second_part second_record(struct second_map map, uint64_t count, const uint8_t *drawer, size_t drawer_length) {
   struct second_found found = second_find(map, count, drawer, drawer_length);
   if (found.number != 0) {
     return (struct second_part){NULL, 0};
@@ -667,8 +657,8 @@ struct second_part second_record(struct second_map map, uint64_t count, const ui
 }
 
 // Judges 16, 17 and 18 of a record made for a good drawer.
-static struct second_verdict judge_filing(uint32_t die, const uint8_t *made, uint64_t count,
-                                          const uint8_t *drawer, size_t drawer_length) {
+static struct second_verdict judge_filing(uint32_t die, const uint8_t *made, uint64_t count, const uint8_t *drawer,
+                                          size_t drawer_length) {
   if (die == 0) {
     return refused(16, 0);
   }
@@ -686,8 +676,7 @@ static struct second_verdict judge_filing(uint32_t die, const uint8_t *made, uin
   return accepted();
 }
 
-struct second_filed second_add(uint32_t die, struct second_map map, uint64_t count, uint8_t *drawer,
-                               size_t drawer_length) {
+struct second_filed second_add(uint32_t die, struct second_map map, uint64_t count, uint8_t *drawer, size_t drawer_length) {
   uint8_t made[RECORD_BYTES];
   struct second_verdict verdict = judge_and_make(map, die, count, drawer, drawer_length, made);
   if (verdict.number == 0) {

@@ -1,5 +1,5 @@
-// Checks second.c against answers worked out by hand from document 01 and the paper's examples.
-// Prints every failure, and as last line how many checks passed and failed.
+// Checks second.c against answers worked out by hand from document 01 and the paper's examples. Prints every failure, and as
+// last line how many checks passed and failed.
 #include <inttypes.h>
 #include <stdlib.h>
 #include <string.h>
@@ -50,8 +50,7 @@ static void expect(const char *call, const char *what, const uint64_t expected[4
   }
 }
 
-static void expect_verdict(const char *call, const char *what, unsigned number, uint64_t place,
-                           struct second_verdict got) {
+static void expect_verdict(const char *call, const char *what, unsigned number, uint64_t place, struct second_verdict got) {
   expect(call, what, ANSWER(number, place), ANSWER(got.number, got.place));
 }
 
@@ -91,9 +90,8 @@ static const struct second_map twins = {2, 4, NUMBERS(2, 3, 0, 0, 4, 1, 0, 0)};
 static const struct second_map twins_renumbered = {2, 4, NUMBERS(0, 0, 3, 4, 0, 0, 1, 2)};
 
 // The 18 darts of figure 1.
-static const struct second_map figure_1 = {
-    2, 18, NUMBERS(2, 15, 3, 14, 4, 18, 5, 17, 6, 10, 7, 9, 1, 8, 9, 7, 10, 6, 11, 5, 8, 12, 13, 11, 14, 16, 15, 2, 12, 1,
-                   17, 13, 18, 4, 16, 3)};
+static const struct second_map figure_1 = {2, 18, NUMBERS(2, 15, 3, 14, 4, 18, 5, 17, 6, 10, 7, 9, 1, 8, 9, 7, 10, 6, 11, 5,
+                                                          8, 12, 13, 11, 14, 16, 15, 2, 12, 1, 17, 13, 18, 4, 16, 3)};
 
 // ---- Signatures ----
 
@@ -113,8 +111,8 @@ static struct outputs outputs_with(const uint16_t *written, size_t length) {
 }
 
 // Lends so many numbers of an output. All of it must stay but the word, which is empty on refusal.
-static void sign_to(const char *what, struct second_map map, size_t out_length, const uint64_t answer[4],
-                    const uint16_t *word, size_t length) {
+static void sign_to(const char *what, struct second_map map, size_t out_length, const uint64_t answer[4], const uint16_t *word,
+                    size_t length) {
   struct outputs outputs = outputs_with(word, length);
   struct second_signed got = second_sign(map, outputs.lent, out_length);
   expect("sign", what, answer, ANSWER(got.number, got.place, got.start, got.symmetries));
@@ -179,9 +177,8 @@ static void check_starts(void) {
 
 // ---- Rings and chains of any size ----
 
-// Labels go round a ring both ways at once, backwards first: even labels lie behind the start and
-// odd ones before it. So beta1 takes an odd label two up, until the two ways meet, and an even
-// label two down, until the start.
+// Labels go round a ring both ways at once, backwards first: even labels lie behind the start and odd ones before it. So beta1
+// takes an odd label two up, until the two ways meet, and an even label two down, until the start.
 static unsigned after_in_ring(unsigned label, unsigned m) {
   if (label % 2 == 0) {
     return label == 2 ? 1 : label - 2;
@@ -195,8 +192,8 @@ static unsigned after_in_ring(unsigned label, unsigned m) {
   return m == 1 ? 1 : m - 1;
 }
 
-// The least word of a ring is that of every start. A chain's starts at its end, the only dart that
-// is unsewn, and goes back dart by dart.
+// The least word of a ring is that of every start. A chain's starts at its end, the only dart that is unsewn, and goes back
+// dart by dart.
 static void shape_word(bool ring, unsigned n, unsigned m, uint16_t *word) {
   memset(word, 0, n * m * sizeof word[0]);
   for (unsigned label = 1; label <= m; label++) {
@@ -232,8 +229,8 @@ static struct second_signed signed_alone(const struct map *map) {
   return second_sign(map_lent(map), out, MOST);
 }
 
-// The symmetries that keep the marks are a part of all, so their number divides that of all; and
-// each takes dart 1 elsewhere, so all of them divide the darts evenly.
+// The symmetries that keep the marks are a part of all, so their number divides that of all; and each takes dart 1 elsewhere,
+// so all of them divide the darts evenly.
 static void check_marked_shape(struct chance *chance, const struct shape *shape) {
   struct map marked;
   uint64_t kept;
@@ -306,8 +303,8 @@ static void check_match(void) {
 
 // ---- Judging a handed-in list ----
 
-static void judge_gives(const char *what, struct second_map first, struct second_map second, unsigned number,
-                        uint64_t place, const uint16_t *list, size_t length) {
+static void judge_gives(const char *what, struct second_map first, struct second_map second, unsigned number, uint64_t place,
+                        const uint16_t *list, size_t length) {
   expect_verdict("judge", what, number, place, second_judge(first, second, list, length));
 }
 
@@ -357,8 +354,8 @@ static void add_to(const char *what, uint32_t die, struct second_map map, uint64
 }
 
 // The record filed has the word as its table.
-static void add_gives(const char *what, uint32_t die, struct second_map map, uint64_t count, uint8_t *drawer,
-                      size_t length, struct second_map word) {
+static void add_gives(const char *what, uint32_t die, struct second_map map, uint64_t count, uint8_t *drawer, size_t length,
+                      struct second_map word) {
   uint8_t record[RECORD];
   put_record(record, die, word);
   add_to(what, die, map, count, drawer, length, ANSWER(0, 0, count + 1), record);
@@ -446,8 +443,7 @@ static void check_refused_maps(void) {
 enum { LIFE_RECORDS = 4, LIFE_BYTES = LIFE_RECORDS * RECORD };
 
 // The first 24 bytes of case F as die 501, and the first 20 of case E as die 0x01020304.
-static const uint8_t f_bytes[] = {245, 1, 0, 0, 2, 0, 7, 0, 3, 0, 0, 0,
-                                  1,   0, 0, 0, 2, 0, 4, 0, 6, 0, 3, 0};
+static const uint8_t f_bytes[] = {245, 1, 0, 0, 2, 0, 7, 0, 3, 0, 0, 0, 1, 0, 0, 0, 2, 0, 4, 0, 6, 0, 3, 0};
 static const uint8_t e_bytes[] = {4, 3, 2, 1, 2, 0, 3, 0, 3, 0, 0, 0, 1, 0, 0, 0, 2, 0, 0, 0};
 
 static void check_life(void) {
@@ -660,8 +656,7 @@ static void list_gives(const char *what, const uint8_t *records, size_t length, 
 }
 
 // A record alone, with some bits put in one of its bytes.
-static void list_spoiled(const char *what, uint32_t die, struct second_map map, size_t at, uint8_t bits,
-                         const char *expected) {
+static void list_spoiled(const char *what, uint32_t die, struct second_map map, size_t at, uint8_t bits, const char *expected) {
   uint8_t record[RECORD];
   put_record(record, die, map);
   record[at] |= bits;

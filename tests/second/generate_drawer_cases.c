@@ -308,9 +308,14 @@ static const struct drawer_group drawer_groups[] = {
     {34, print_refused_maps}, {26, print_filings}, {14, print_history},     {10, print_fulls},
 };
 
+enum { DRAWER_GROUPS = sizeof drawer_groups / sizeof drawer_groups[0] };
+
 void print_drawer_cases(struct chance *chance, uint64_t count) {
-  struct shares shares = {.count = count, .total = 200};
-  for (size_t group = 0; shares.before < shares.total; group++) {
-    drawer_groups[group].print(chance, next_share(&shares, drawer_groups[group].weight));
+  struct shares shares = {.count = count};
+  for (size_t at = 0; at < DRAWER_GROUPS; at++) {
+    shares.total += drawer_groups[at].weight;
+  }
+  for (size_t at = 0; at < DRAWER_GROUPS; at++) {
+    drawer_groups[at].print(chance, next_share(&shares, drawer_groups[at].weight));
   }
 }

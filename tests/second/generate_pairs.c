@@ -153,8 +153,13 @@ struct group {
   enum output_length (*length)(struct chance *chance);
 };
 
-static void print_groups(struct chance *chance, struct shares shares, const struct group *group, uint64_t most_entries) {
-  for (; shares.before < shares.total; group++) {
+static void print_groups(struct chance *chance, uint64_t count, const struct group *groups, size_t length,
+                         uint64_t most_entries) {
+  struct shares shares = {.count = count};
+  for (size_t at = 0; at < length; at++) {
+    shares.total += groups[at].weight;
+  }
+  for (const struct group *group = groups; group < groups + length; group++) {
     uint64_t cases = next_share(&shares, group->weight);
     printf("# %s\n", group->comment);
     for (uint64_t turn = 0; turn < cases; turn++) {
@@ -183,7 +188,7 @@ static const struct group match_groups[] = {
 };
 
 void print_match_cases(struct chance *chance, uint64_t count, uint64_t most_entries) {
-  print_groups(chance, (struct shares){.count = count, .total = 58}, match_groups, most_entries);
+  print_groups(chance, count, match_groups, sizeof match_groups / sizeof match_groups[0], most_entries);
 }
 
 // ---- Lists ----
@@ -275,5 +280,5 @@ static const struct group judge_groups[] = {
 };
 
 void print_judge_cases(struct chance *chance, uint64_t count) {
-  print_groups(chance, (struct shares){.count = count, .total = 62}, judge_groups, MOST_ENTRIES);
+  print_groups(chance, count, judge_groups, sizeof judge_groups / sizeof judge_groups[0], MOST_ENTRIES);
 }

@@ -19,18 +19,6 @@ static void require_accepted(const struct map *map, const char *family) {
 
 // ---- Without choices, or with few ----
 
-static bool make_ring(struct chance *chance, struct map *map) {
-  (void)chance;
-  *map = ring_map(map->n, map->m);
-  return true;
-}
-
-static bool make_chain(struct chance *chance, struct map *map) {
-  (void)chance;
-  *map = chain_map(map->n, map->m);
-  return true;
-}
-
 // Every dart is 2-sewn to itself, so an odd dart count can be closed as well.
 static bool make_self_sewn_ring(struct chance *chance, struct map *map) {
   (void)chance;
@@ -352,29 +340,31 @@ static bool make_tiny(struct chance *chance, struct map *map) {
 
 // ---- All families ----
 
+// Plain ones have a map of every n and m, and leave nothing to chance.
 struct family {
   const char *name;
+  struct map (*plain)(uint64_t n, uint64_t m);
   bool (*make)(struct chance *chance, struct map *map);
 };
 
 // Grown maps and polygons have the most variety: they stand here three times, to come oftener.
 static const struct family families[] = {
-    {"ring", make_ring},
-    {"chain", make_chain},
-    {"ring sewn to itself", make_self_sewn_ring},
-    {"torus grid", make_torus_grid},
-    {"open grid", make_open_grid},
-    {"mirrored twice", make_double},
-    {"product", make_product},
-    {"copies in a ring", make_repeated},
-    {"copies in a ring", make_repeated},
-    {"tiny", make_tiny},
-    {"grown", make_grown},
-    {"grown", make_grown},
-    {"grown", make_grown},
-    {"polygons", make_polygons},
-    {"polygons", make_polygons},
-    {"polygons", make_polygons},
+    {"ring", ring_map, NULL},
+    {"chain", chain_map, NULL},
+    {"ring sewn to itself", NULL, make_self_sewn_ring},
+    {"torus grid", NULL, make_torus_grid},
+    {"open grid", NULL, make_open_grid},
+    {"mirrored twice", NULL, make_double},
+    {"product", NULL, make_product},
+    {"copies in a ring", NULL, make_repeated},
+    {"copies in a ring", NULL, make_repeated},
+    {"tiny", NULL, make_tiny},
+    {"grown", NULL, make_grown},
+    {"grown", NULL, make_grown},
+    {"grown", NULL, make_grown},
+    {"polygons", NULL, make_polygons},
+    {"polygons", NULL, make_polygons},
+    {"polygons", NULL, make_polygons},
 };
 
 size_t family_count(void) {
@@ -387,8 +377,9 @@ const char *family_name(size_t family) {
 
 // Works beyond the bounds of n and m too, as long as the table has room; then nothing is required.
 bool family_map(struct chance *chance, size_t family, uint64_t n, uint64_t m, struct map *map) {
-  *map = map_empty(n, m);
-  if (!families[family].make(chance, map)) {
+  bool (*make)(struct chance *, struct map *) = families[family].make;
+  *map = make == NULL ? families[family].plain(n, m) : map_empty(n, m);
+  if (make != NULL && !make(chance, map)) {
     return false;
   }
   if (n * m <= MOST_ENTRIES) {

@@ -28,14 +28,6 @@ struct map map_renamed(const struct map *map, const uint16_t *to) {
   return renamed;
 }
 
-void inserted_names(struct chance *chance, uint64_t m, uint16_t *to) {
-  for (uint64_t d = 0; d < m; d++) {
-    uint64_t earlier = chance_below(chance, d + 1);
-    to[d] = to[earlier];
-    to[earlier] = (uint16_t)(d + 1);
-  }
-}
-
 struct map map_shuffled(struct chance *chance, const struct map *map) {
   uint16_t to[TABLE_ROOM];
   shuffled_names(chance, map->m, to);
@@ -44,7 +36,11 @@ struct map map_shuffled(struct chance *chance, const struct map *map) {
 
 struct map map_inserted(struct chance *chance, const struct map *map) {
   uint16_t to[TABLE_ROOM];
-  inserted_names(chance, map->m, to);
+  for (uint64_t d = 0; d < map->m; d++) {
+    uint64_t earlier = chance_below(chance, d + 1);
+    to[d] = to[earlier];
+    to[earlier] = (uint16_t)(d + 1);
+  }
   return map_renamed(map, to);
 }
 

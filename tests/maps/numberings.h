@@ -9,7 +9,6 @@ struct map map_renamed(const struct map *map, const uint16_t *to);
 
 // Names by chance, in two ways of drawing: seeded lists keep to the first, measured maps to the second.
 void shuffled_names(struct chance *chance, uint64_t m, uint16_t *to);
-void inserted_names(struct chance *chance, uint64_t m, uint16_t *to);
 struct map map_shuffled(struct chance *chance, const struct map *map);
 struct map map_inserted(struct chance *chance, const struct map *map);
 

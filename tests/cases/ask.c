@@ -1,5 +1,5 @@
-// Makes the call that a case asks for, by the second program. The reader's tests compile it once
-// more with the library's calls in the second program's place.
+// Makes the call that a case asks for, by the second program. The reader's tests compile it once more with the library's calls
+// in the second program's place.
 #include "ask.h"
 
 static struct answer answered(struct second_verdict verdict, uint64_t third, uint64_t fourth) {
@@ -21,8 +21,7 @@ static struct answer ask_on_drawer(const struct test_case *asked) {
     filed = second_add(asked->die, map, asked->count, drawer.bytes, drawer.length);
     return answered((struct second_verdict){filed.number, filed.place}, filed.count, 0);
   default:
-    return (struct answer){
-        .record = second_record(map, asked->count, drawer.bytes, drawer.length)};
+    return (struct answer){.record = second_record(map, asked->count, drawer.bytes, drawer.length)};
   }
 }
 

@@ -4,8 +4,7 @@
 
 #include "cases.h"
 
-// The numbers of an answer in the order of CASES.md, 0 where a call has fewer; RECORD has the
-// record's own bytes alone.
+// The numbers of an answer in the order of CASES.md, 0 where a call has fewer; RECORD has the record's own bytes alone.
 struct answer {
   uint64_t numbers[4];
   struct second_part record;

@@ -5,11 +5,9 @@
 #include <stdlib.h>
 #include <string.h>
 
-const char *const call_words[CALLS] = {"check",  "sign", "match", "judge",
-                                       "drawer", "find", "add",   "record"};
+const char *const call_words[CALLS] = {"check", "sign", "match", "judge", "drawer", "find", "add", "record"};
 
-// The parts of each call's line in their order: a die number, a first and a second map, a list, and
-// a drawer with its count.
+// The parts of each call's line in their order: a die number, a first and a second map, a list, and a drawer with its count.
 static const char *const call_parts[CALLS] = {"1", "1l", "12l", "12l", "b", "1b", "d1b", "1b"};
 
 // ---- Single parts ----

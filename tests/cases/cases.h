@@ -11,8 +11,7 @@ enum call { CHECK, SIGN, MATCH, JUDGE, DRAWER, FIND, ADD, RECORD, CALLS };
 // The word that a case of the call begins with.
 extern const char *const call_words[CALLS];
 
-// Both hold exactly `length` items where they were read, so that a look past the end is a look past
-// the block.
+// Both hold exactly `length` items where they were read, so that a look past the end is a look past the block.
 struct list {
   uint16_t *numbers;
   size_t length;
@@ -23,8 +22,8 @@ struct bytes {
   size_t length;
 };
 
-// What a call is asked; parts that it does not have are 0. The list is the one handed in, or the
-// lent output before the call; the drawer is lent with a count of records.
+// What a call is asked; parts that it does not have are 0. The list is the one handed in, or the lent output before the call;
+// the drawer is lent with a count of records.
 struct test_case {
   enum call call;
   uint32_t die;
@@ -35,8 +34,8 @@ struct test_case {
   struct bytes drawer;
 };
 
-// Reads the next case, which drop_case frees; false after the last one. Lines that are no case are
-// copied to `comments`, if that is not NULL. An input that is not in the form ends the program.
+// Reads the next case, which drop_case frees; false after the last one. Lines that are no case are copied to `comments`, if
+// that is not NULL. An input that is not in the form ends the program.
 bool read_case(struct test_case *read, FILE *comments);
 void drop_case(struct test_case *read);
 

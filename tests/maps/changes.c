@@ -1,5 +1,4 @@
-// Changes accepted maps: to others that are accepted, or by one or two faults that are found by
-// trying.
+// Changes accepted maps: to others that are accepted, or by one or two faults that are found by trying.
 #include "changes.h"
 
 #include "families.h"
@@ -16,35 +15,29 @@ bool map_mirrored(const struct map *map, struct map *changed) {
   return map_refusal(changed) == 0;
 }
 
-bool map_less_one_sewing(struct chance *chance, const struct map *map, struct map *changed) {
+// A sewing comes loose; or only one of a dart to itself does, and an unsewn dart is sewn to itself.
+static bool map_with_one_change(struct chance *chance, const struct map *map, bool only_ends, struct map *changed) {
   for (int tries = 0; tries < 40; tries++) {
     uint64_t i = 1 + chance_below(chance, map->n);
     uint64_t d = 1 + chance_below(chance, map->m);
+    bool loosened = beta(map, i, d) != 0 && (!only_ends || beta(map, i, d) == d);
     *changed = *map;
-    unsew(changed, i, d);
-    if (beta(map, i, d) != 0 && map_refusal(changed) == 0) {
+    if (loosened) {
+      unsew(changed, i, d);
+    }
+    if ((loosened || (only_ends && try_sew(changed, i, d, d))) && map_refusal(changed) == 0) {
       return true;
     }
   }
   return false;
 }
 
-// An unsewn dart becomes sewn to itself, or the other way round.
+bool map_less_one_sewing(struct chance *chance, const struct map *map, struct map *changed) {
+  return map_with_one_change(chance, map, false, changed);
+}
+
 bool map_with_loose_end_turned(struct chance *chance, const struct map *map, struct map *changed) {
-  for (int tries = 0; tries < 40; tries++) {
-    uint64_t i = 1 + chance_below(chance, map->n);
-    uint64_t d = 1 + chance_below(chance, map->m);
-    *changed = *map;
-    if (beta(map, i, d) == d) {
-      unsew(changed, i, d);
-    } else if (!try_sew(changed, i, d, d)) {
-      continue;
-    }
-    if (map_refusal(changed) == 0) {
-      return true;
-    }
-  }
-  return false;
+  return map_with_one_change(chance, map, true, changed);
 }
 
 // ---- Refused ----
@@ -55,8 +48,7 @@ const unsigned table_refusals[TABLE_REFUSALS] = {1, 2, 3, 5, 6, 7, 8, 9};
 static struct map with_wrong_n(struct chance *chance, uint64_t most_entries) {
   struct map map = any_accepted_map(chance, most_entries);
   const uint64_t wrong[] = {
-      0,          5, map.n + 256, map.n + 65536, map.n + ((uint64_t)1 << 32),
-      UINT64_MAX, 6, 257,         255,           map.n + ((uint64_t)1 << 63),
+      0, 5, map.n + 256, map.n + 65536, map.n + ((uint64_t)1 << 32), UINT64_MAX, 6, 257, 255, map.n + ((uint64_t)1 << 63),
   };
   map.n = wrong[chance_below(chance, sizeof wrong / sizeof wrong[0])];
   if (map.n == 0 && chance_one_in(chance, 2)) {
@@ -118,8 +110,7 @@ static struct map with_wrong_m(struct chance *chance, uint64_t most_entries) {
 static struct map with_wrong_length(struct chance *chance, uint64_t most_entries) {
   struct map map = any_accepted_map(chance, most_entries);
   size_t right = map.length;
-  const size_t wrong[] = {right - 1,     right + 1,         0, right + (size_t)map.m,
-                          (size_t)map.m, right + right / 2, 1, right + 255};
+  const size_t wrong[] = {right - 1, right + 1, 0, right + (size_t)map.m, (size_t)map.m, right + right / 2, 1, right + 255};
   do {
     map.length = wrong[chance_below(chance, sizeof wrong / sizeof wrong[0])];
   } while (map.length == right);

@@ -12,24 +12,12 @@ static void require_accepted(const struct map *map, const char *family) {
   if (number == 0) {
     return;
   }
-  fprintf(stderr, "generate: %s with n %llu, m %llu is refused with %u\n", family,
-          (unsigned long long)map->n, (unsigned long long)map->m, number);
+  fprintf(stderr, "generate: %s with n %llu, m %llu is refused with %u\n", family, (unsigned long long)map->n,
+          (unsigned long long)map->m, number);
   exit(3);
 }
 
 // ---- Without choices, or with few ----
-
-static bool make_ring(struct chance *chance, struct map *map) {
-  (void)chance;
-  *map = ring_map(map->n, map->m);
-  return true;
-}
-
-static bool make_chain(struct chance *chance, struct map *map) {
-  (void)chance;
-  *map = chain_map(map->n, map->m);
-  return true;
-}
 
 // Every dart is 2-sewn to itself, so an odd dart count can be closed as well.
 static bool make_self_sewn_ring(struct chance *chance, struct map *map) {
@@ -69,8 +57,8 @@ static bool make_open_grid(struct chance *chance, struct map *map) {
 
 // ---- Grown maps ----
 
-// Sews the new dart to some earlier one. This always comes to an end: while maps only grow, no
-// chain of beta 1 closes, and a new dart may always be put before the first dart of a chain.
+// Sews the new dart to some earlier one. This always comes to an end: while maps only grow, no chain of beta 1 closes, and a
+// new dart may always be put before the first dart of a chain.
 static void attach(struct chance *chance, struct map *map, uint64_t newcomer) {
   for (;;) {
     uint64_t i = 1 + chance_below(chance, map->n);
@@ -118,8 +106,7 @@ static void find_face(const struct map *map, uint64_t d, struct face *face) {
   face->closed = beta(map, 1, last) == first;
 }
 
-static bool glue(struct map *map, uint64_t j, const struct face *one, const struct face *other,
-                 size_t turn) {
+static bool glue(struct map *map, uint64_t j, const struct face *one, const struct face *other, size_t turn) {
   struct map glued = *map;
   for (size_t k = 0; k < one->size; k++) {
     uint64_t d = one->darts[k];
@@ -175,8 +162,7 @@ static uint64_t polygon_size(struct chance *chance, uint64_t left, size_t loose_
   return size < left ? size : left;
 }
 
-static void lay_polygon(struct map *map, struct loose_darts *loose, uint64_t first, uint64_t size,
-                        bool closed) {
+static void lay_polygon(struct map *map, struct loose_darts *loose, uint64_t first, uint64_t size, bool closed) {
   for (uint64_t d = first; d < first + size; d++) {
     if (d + 1 < first + size) {
       sew(map, 1, d, d + 1);
@@ -188,8 +174,7 @@ static void lay_polygon(struct map *map, struct loose_darts *loose, uint64_t fir
 }
 
 // Takes one dart of the new polygon, which are the last ones of the list, and one of the others.
-static void join_polygon(struct chance *chance, struct map *map, struct loose_darts *loose,
-                         size_t before) {
+static void join_polygon(struct chance *chance, struct map *map, struct loose_darts *loose, size_t before) {
   size_t at = before + (size_t)chance_below(chance, loose->count - before);
   uint16_t own = loose->darts[at];
   size_t other_at = (size_t)chance_below(chance, before);
@@ -246,9 +231,8 @@ static bool make_double(struct chance *chance, struct map *map) {
   return compositions_hold(map);
 }
 
-// Darts are pairs: a place on a ring or line of `across` places, and a number below `along`. By
-// beta 1 the place moves, backwards for odd numbers. The other sewings change the number by a mask,
-// and beta 2 may turn the line about.
+// Darts are pairs: a place on a ring or line of `across` places, and a number below `along`. By beta 1 the place moves,
+// backwards for odd numbers. The other sewings change the number by a mask, and beta 2 may turn the line about.
 struct product {
   uint64_t across;
   uint64_t along;
@@ -269,20 +253,9 @@ static void lay_product_dart(struct map *map, const struct product *shape, uint6
     uint64_t next = (backwards ? x + shape->across - 1 : x + 1) % shape->across;
     set_beta(map, 1, d, product_dart(shape, next, t));
   }
-  if (map->n >= 2) {
-    uint64_t other = shape->turned ? shape->across - 1 - x : x;
-    set_beta(map, 2, d, product_dart(shape, other, t ^ shape->masks[2]));
-  }
-  for (uint64_t j = 3; j <= map->n; j++) {
-    set_beta(map, j, d, product_dart(shape, x, t ^ shape->masks[j]));
-  }
-}
-
-static void lay_product(struct map *map, const struct product *shape) {
-  for (uint64_t x = 0; x < shape->across; x++) {
-    for (uint64_t t = 0; t < shape->along; t++) {
-      lay_product_dart(map, shape, x, t);
-    }
+  for (uint64_t j = 2; j <= map->n; j++) {
+    uint64_t place = j == 2 && shape->turned ? shape->across - 1 - x : x;
+    set_beta(map, j, d, product_dart(shape, place, t ^ shape->masks[j]));
   }
 }
 
@@ -311,7 +284,9 @@ static bool make_product(struct chance *chance, struct map *map) {
     struct product shape = any_product(chance, map->m);
     if (map->n <= 2 || shape.along >= 2) {
       *map = map_empty(map->n, map->m);
-      lay_product(map, &shape);
+      for (uint64_t at = 0; at < map->m; at++) {
+        lay_product_dart(map, &shape, at / shape.along, at % shape.along);
+      }
       if (map_refusal(map) == 0) {
         return true;
       }
@@ -365,29 +340,31 @@ static bool make_tiny(struct chance *chance, struct map *map) {
 
 // ---- All families ----
 
+// Plain ones have a map of every n and m, and leave nothing to chance.
 struct family {
   const char *name;
+  struct map (*plain)(uint64_t n, uint64_t m);
   bool (*make)(struct chance *chance, struct map *map);
 };
 
 // Grown maps and polygons have the most variety: they stand here three times, to come oftener.
 static const struct family families[] = {
-    {"ring", make_ring},
-    {"chain", make_chain},
-    {"ring sewn to itself", make_self_sewn_ring},
-    {"torus grid", make_torus_grid},
-    {"open grid", make_open_grid},
-    {"mirrored twice", make_double},
-    {"product", make_product},
-    {"copies in a ring", make_repeated},
-    {"copies in a ring", make_repeated},
-    {"tiny", make_tiny},
-    {"grown", make_grown},
-    {"grown", make_grown},
-    {"grown", make_grown},
-    {"polygons", make_polygons},
-    {"polygons", make_polygons},
-    {"polygons", make_polygons},
+    {"ring", ring_map, NULL},
+    {"chain", chain_map, NULL},
+    {"ring sewn to itself", NULL, make_self_sewn_ring},
+    {"torus grid", NULL, make_torus_grid},
+    {"open grid", NULL, make_open_grid},
+    {"mirrored twice", NULL, make_double},
+    {"product", NULL, make_product},
+    {"copies in a ring", NULL, make_repeated},
+    {"copies in a ring", NULL, make_repeated},
+    {"tiny", NULL, make_tiny},
+    {"grown", NULL, make_grown},
+    {"grown", NULL, make_grown},
+    {"grown", NULL, make_grown},
+    {"polygons", NULL, make_polygons},
+    {"polygons", NULL, make_polygons},
+    {"polygons", NULL, make_polygons},
 };
 
 size_t family_count(void) {
@@ -400,8 +377,9 @@ const char *family_name(size_t family) {
 
 // Works beyond the bounds of n and m too, as long as the table has room; then nothing is required.
 bool family_map(struct chance *chance, size_t family, uint64_t n, uint64_t m, struct map *map) {
-  *map = map_empty(n, m);
-  if (!families[family].make(chance, map)) {
+  bool (*make)(struct chance *, struct map *) = families[family].make;
+  *map = make == NULL ? families[family].plain(n, m) : map_empty(n, m);
+  if (make != NULL && !make(chance, map)) {
     return false;
   }
   if (n * m <= MOST_ENTRIES) {

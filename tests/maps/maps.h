@@ -17,8 +17,7 @@ struct chance {
   uint64_t state;
 };
 
-// The same numbers from the same state everywhere. At most one draw in an expression: C leaves the
-// order of two open.
+// The same numbers from the same state everywhere. At most one draw in an expression: C leaves the order of two open.
 uint64_t chance_next(struct chance *chance);
 uint64_t chance_below(struct chance *chance, uint64_t bound);
 bool chance_one_in(struct chance *chance, uint64_t times);
@@ -63,8 +62,8 @@ bool try_sew(struct map *map, uint64_t i, uint64_t d, uint64_t e);
 // A closed face of `size` darts from the first one on.
 void lay_face(struct map *map, uint64_t first, uint64_t size);
 
-// The map and its mirror image in dimension n, each dart d sewn by beta j to its mirror dart m + d.
-// Where the map is open, a composition may fail.
+// The map and its mirror image in dimension n, each dart d sewn by beta j to its mirror dart m + d. Where the map is open, a
+// composition may fail.
 struct map mirrored_twice(const struct map *map, uint64_t n, uint64_t j);
 
 #endif

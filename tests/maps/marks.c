@@ -11,8 +11,8 @@ struct symmetry {
   uint16_t to[MOST_ENTRIES];
 };
 
-// A match with a renumbered copy, and then back to the old numbers. It takes dart 1 to the least
-// number of all that it could go to, and those are drawn.
+// A match with a renumbered copy, and then back to the old numbers. It takes dart 1 to the least number of all that it could go
+// to, and those are drawn.
 static struct symmetry any_symmetry(struct chance *chance, const struct map *map) {
   struct symmetry symmetry;
   uint16_t names[TABLE_ROOM];
@@ -34,10 +34,9 @@ struct darts {
   uint16_t darts[MOST_ENTRIES];
 };
 
-// All darts that the symmetries take the first to, by any steps. No symmetry but the one that moves
-// nothing leaves a dart where it is, so these are as many as symmetries come of the given ones.
-static void find_orbit(const struct symmetry *symmetries, uint64_t count, uint64_t first,
-                       struct darts *orbit) {
+// All darts that the symmetries take the first to, by any steps. No symmetry but the one that moves nothing leaves a dart where
+// it is, so these are as many as symmetries come of the given ones.
+static void find_orbit(const struct symmetry *symmetries, uint64_t count, uint64_t first, struct darts *orbit) {
   bool met[MOST_ENTRIES + 1] = {false};
   met[first] = true;
   orbit->count = 1;
@@ -53,28 +52,20 @@ static void find_orbit(const struct symmetry *symmetries, uint64_t count, uint64
   }
 }
 
-// The dart comes loose, or is sewn to itself and those that it was sewn to come loose.
-static void mark(struct map *map, uint64_t i, uint64_t dart, bool to_itself) {
-  if (to_itself) {
-    sew(map, i, dart, dart);
-  } else {
-    unsew(map, i, dart);
-  }
-}
-
-static bool same_tables(const struct map *one, const struct map *other) {
-  return memcmp(one->table, other->table, one->length * sizeof one->table[0]) == 0;
-}
-
-static bool mark_orbit(struct chance *chance, const struct map *map, const struct darts *orbit,
-                       bool all, struct map *marked) {
+// Each dart comes loose, or is sewn to itself and those that it was sewn to come loose.
+static bool mark_orbit(struct chance *chance, const struct map *map, const struct darts *orbit, bool all, struct map *marked) {
   uint64_t i = 1 + chance_below(chance, map->n);
   bool to_itself = chance_one_in(chance, 2);
   *marked = *map;
   for (size_t at = all ? 0 : 1; at < orbit->count; at++) {
-    mark(marked, i, orbit->darts[at], to_itself);
+    if (to_itself) {
+      sew(marked, i, orbit->darts[at], orbit->darts[at]);
+    } else {
+      unsew(marked, i, orbit->darts[at]);
+    }
   }
-  return map_refusal(marked) == 0 && !same_tables(marked, map);
+  bool changed = memcmp(marked->table, map->table, map->length * sizeof map->table[0]) != 0;
+  return changed && map_refusal(marked) == 0;
 }
 
 bool map_marked(struct chance *chance, const struct map *map, struct map *marked, uint64_t *kept) {

@@ -3,6 +3,8 @@
 
 #include <stdlib.h>
 
+#include "../second/second_inside.h"
+
 void shuffled_names(struct chance *chance, uint64_t m, uint16_t *to) {
   for (uint64_t d = 1; d <= m; d++) {
     to[d - 1] = (uint16_t)d;
@@ -26,14 +28,6 @@ struct map map_renamed(const struct map *map, const uint16_t *to) {
   return renamed;
 }
 
-void inserted_names(struct chance *chance, uint64_t m, uint16_t *to) {
-  for (uint64_t d = 0; d < m; d++) {
-    uint64_t earlier = chance_below(chance, d + 1);
-    to[d] = to[earlier];
-    to[earlier] = (uint16_t)(d + 1);
-  }
-}
-
 struct map map_shuffled(struct chance *chance, const struct map *map) {
   uint16_t to[TABLE_ROOM];
   shuffled_names(chance, map->m, to);
@@ -42,7 +36,11 @@ struct map map_shuffled(struct chance *chance, const struct map *map) {
 
 struct map map_inserted(struct chance *chance, const struct map *map) {
   uint16_t to[TABLE_ROOM];
-  inserted_names(chance, map->m, to);
+  for (uint64_t d = 0; d < map->m; d++) {
+    uint64_t earlier = chance_below(chance, d + 1);
+    to[d] = to[earlier];
+    to[earlier] = (uint16_t)(d + 1);
+  }
   return map_renamed(map, to);
 }
 
@@ -70,16 +68,6 @@ void order_from(const struct map *map, uint64_t start, struct map_order *order) 
   }
 }
 
-void word_from(const struct map *map, uint64_t start, uint16_t *word) {
-  struct map_order order;
-  order_from(map, start, &order);
-  for (size_t k = 0; k < order.length; k++) {
-    for (uint64_t i = 1; i <= map->n; i++) {
-      *word++ = order.labels[beta(map, i, order.darts[k])];
-    }
-  }
-}
-
 // ---- Numberings by words ----
 
 struct start {
@@ -90,13 +78,8 @@ struct start {
 
 static struct start starts[MOST_ENTRIES];
 
-// Less than 0, 0 or greater, as for qsort.
 static int compare_words(const struct start *one, const struct start *other) {
-  size_t at = 0;
-  while (at < one->length && one->word[at] == other->word[at]) {
-    at++;
-  }
-  return at == one->length ? 0 : one->word[at] < other->word[at] ? -1 : 1;
+  return second_compare_words(one->word, other->word, one->length);
 }
 
 static int compare_starts(const void *one, const void *other) {
@@ -110,7 +93,7 @@ static void sort_starts(const struct map *map) {
   for (uint64_t d = 1; d <= map->m; d++) {
     starts[d - 1].dart = (uint16_t)d;
     starts[d - 1].length = map->length;
-    word_from(map, d, starts[d - 1].word);
+    second_word(map_lent(map), d, starts[d - 1].word);
   }
   qsort(starts, (size_t)map->m, sizeof starts[0], compare_starts);
 }
@@ -152,9 +135,8 @@ static void give_by_turns(struct names *names, size_t m) {
   }
 }
 
-// Words fall, so that the first start of each is less than all before it. The others of a word
-// come once the next lesser word is the best: that one goes farthest along with theirs, and none
-// of them ties.
+// Words fall, so that the first start of each is less than all before it. The others of a word come once the next lesser word
+// is the best: that one goes farthest along with theirs, and none of them ties.
 static void give_longest_runs(struct names *names, size_t m) {
   size_t end = m;
   size_t first = first_alike(end);

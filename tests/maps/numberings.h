@@ -7,17 +7,14 @@
 // to[d - 1] is the new name of dart d.
 struct map map_renamed(const struct map *map, const uint16_t *to);
 
-// Names by chance, in two ways of drawing: seeded lists keep to the first, measured maps to the
-// second.
+// Names by chance, in two ways of drawing: seeded lists keep to the first, measured maps to the second.
 void shuffled_names(struct chance *chance, uint64_t m, uint16_t *to);
-void inserted_names(struct chance *chance, uint64_t m, uint16_t *to);
 struct map map_shuffled(struct chance *chance, const struct map *map);
 struct map map_inserted(struct chance *chance, const struct map *map);
 
 // ---- Words ----
 
-// labels[d] is the label of dart d from some start, with labels[0] 0; darts has them in the order
-// labelled.
+// labels[d] is the label of dart d from some start, with labels[0] 0; darts has them in the order labelled.
 struct map_order {
   size_t length;
   uint16_t darts[MOST_ENTRIES];
@@ -25,9 +22,6 @@ struct map_order {
 };
 
 void order_from(const struct map *map, uint64_t start, struct map_order *order);
-
-// Writes the n * m numbers of the start's word.
-void word_from(const struct map *map, uint64_t start, uint16_t *word);
 
 // Starts are tried in the order of the dart numbers, so the numbering decides what they cost.
 enum numbering {

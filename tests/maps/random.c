@@ -14,11 +14,9 @@ struct border {
 };
 
 // Puts `count` darts, each one less than the one before it, where `removed` darts stood.
-static void replace_in_border(struct border *border, size_t at, size_t removed, uint64_t highest,
-                              size_t count) {
+static void replace_in_border(struct border *border, size_t at, size_t removed, uint64_t highest, size_t count) {
   size_t after = border->length - at - removed;
-  memmove(&border->darts[at + count], &border->darts[at + removed],
-          after * sizeof border->darts[0]);
+  memmove(&border->darts[at + count], &border->darts[at + removed], after * sizeof border->darts[0]);
   for (size_t k = 0; k < count; k++) {
     border->darts[at + k] = (uint16_t)(highest - k);
   }
@@ -32,17 +30,16 @@ static uint64_t polygon_size(struct chance *chance, uint64_t left) {
   return left < size + 3 ? left : size;
 }
 
-// Sews a new polygon's first dart to a dart of the border; its other darts are border then. Around
-// the outside they stand in falling order, since inside each polygon they rise.
-static void glue_polygon(struct chance *chance, struct map *map, struct border *border,
-                         uint64_t first, uint64_t size) {
+// Sews a new polygon's first dart to a dart of the border; its other darts are border then. Around the outside they stand in
+// falling order, since inside each polygon they rise.
+static void glue_polygon(struct chance *chance, struct map *map, struct border *border, uint64_t first, uint64_t size) {
   size_t at = (size_t)chance_below(chance, border->length);
   sew(map, 2, first, border->darts[at]);
   replace_in_border(border, at, 1, first + size - 1, (size_t)size - 1);
 }
 
-// Sews two neighbours of the border, which closes the corner between them. A border of fewer than
-// 4 is left alone, so that the next polygon always finds a place.
+// Sews two neighbours of the border, which closes the corner between them. A border of fewer than 4 is left alone, so that the
+// next polygon always finds a place.
 static void close_corner(struct chance *chance, struct map *map, struct border *border) {
   if (border->length < 4) {
     return;
@@ -93,8 +90,8 @@ static bool try_any_sewing(struct chance *chance, struct map *map, uint64_t d, u
   return turned ? try_sew(map, i, e, d) : try_sew(map, i, d, e);
 }
 
-// Each dart is sewn to an earlier one, which keeps the map in one piece; then some more sewings are
-// tried. A chain of beta 1 never closes while darts are added, so there is always a loose end.
+// Each dart is sewn to an earlier one, which keeps the map in one piece; then some more sewings are tried. A chain of beta 1
+// never closes while darts are added, so there is always a loose end.
 struct map grown_map(struct chance *chance, uint64_t n, uint64_t m) {
   struct map map = map_empty(n, m);
   for (uint64_t d = 2; d <= m; d++) {

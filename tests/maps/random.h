@@ -4,8 +4,7 @@
 
 #include "maps.h"
 
-// Polygons of 3 to 10 darts glued to each other in the plane, n = 2. The darts are numbered by
-// chance, here and below.
+// Polygons of 3 to 10 darts glued to each other in the plane, n = 2. The darts are numbered by chance, here and below.
 struct map planar_map(struct chance *chance, uint64_t m);
 
 // A planar map closed and doubled, n = 3; wants m to be a multiple of 4.

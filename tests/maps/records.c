@@ -46,8 +46,7 @@ uint8_t *record_at(uint8_t *drawer, uint64_t record) {
 // A record is its layout from n on.
 bool layout_stands(uint8_t *drawer, uint64_t count, const uint8_t *record) {
   for (uint64_t other = 1; other <= count; other++) {
-    if (memcmp(record_at(drawer, other) + RECORD_N_AT, record + RECORD_N_AT,
-               RECORD_BYTES - RECORD_N_AT) == 0) {
+    if (memcmp(record_at(drawer, other) + RECORD_N_AT, record + RECORD_N_AT, RECORD_BYTES - RECORD_N_AT) == 0) {
       return true;
     }
   }

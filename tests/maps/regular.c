@@ -76,8 +76,7 @@ static void generate_group(struct group *group, const struct turn *generators, u
   }
 }
 
-// The sewings add a turn inside, so a turn added outside is a symmetry: there is one that takes
-// dart 1 to any other.
+// The sewings add a turn inside, so a turn added outside is a symmetry: there is one that takes dart 1 to any other.
 static struct map map_of_group(uint64_t n, const char *turns, struct group *group) {
   struct turn sewings[4];
   for (uint64_t i = 1; i <= n; i++) {
@@ -100,8 +99,8 @@ struct map regular_map(uint64_t n, const char *turns) {
 
 // ---- Cubes ----
 
-// Points 0, 1, 2 are the ways east, north and up, and 3, 4, 5 the ways back. A dart's turn takes UP
-// to where its face looks, which is where beta 3 leads to.
+// Points 0, 1, 2 are the ways east, north and up, and 3, 4, 5 the ways back. A dart's turn takes UP to where its face looks,
+// which is where beta 3 leads to.
 static const char cube_turns[] = "513246 432165 426153";
 enum { UP = 2, WAYS = 3 };
 

@@ -80,8 +80,8 @@ static void add_joined(struct joined_places *order, uint64_t place) {
   }
 }
 
-// A start so many places on ties: each dart is joined with the one so many places on, in the order
-// of the labels, which go outwards from place 0 on both sides, backwards first.
+// A start so many places on ties: each dart is joined with the one so many places on, in the order of the labels, which go
+// outwards from place 0 on both sides, backwards first.
 static void join_turned(uint64_t m, uint64_t turn, struct joined_places *order) {
   for (uint64_t far = 0; far <= m / 2; far++) {
     const uint64_t sides[] = {(m - far) % m, far};
@@ -92,8 +92,8 @@ static void join_turned(uint64_t m, uint64_t turn, struct joined_places *order) 
   }
 }
 
-// Dart 2 is four places on. But for every fourth place, what is joined later has the lesser name,
-// so it goes on top of its tree; and the next two ties, two places on and one, walk all the trees.
+// Dart 2 is four places on. But for every fourth place, what is joined later has the lesser name, so it goes on top of its
+// tree; and the next two ties, two places on and one, walk all the trees.
 struct map deep_ring_map(uint64_t n, uint64_t m) {
   struct ring_names names = {0};
   struct joined_places order = {0};
@@ -228,8 +228,8 @@ struct map antiprism_map(uint64_t sides) {
 
 // ---- Corners cut ----
 
-// What was dart d is now d less its ends, the cut behind it, and the other side of that cut, which
-// is a dart of the corner's new face.
+// What was dart d is now d less its ends, the cut behind it, and the other side of that cut, which is a dart of the corner's
+// new face.
 struct map truncated_map(const struct map *map) {
   struct map cut = map_empty(2, 3 * map->m);
   for (uint64_t d = 1; d <= map->m; d++) {

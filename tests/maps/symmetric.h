@@ -4,8 +4,7 @@
 
 #include "maps.h"
 
-// A map and how many symmetries it has. It was sewn to its mirror image `doubled` times, each time
-// by a new sewing.
+// A map and how many symmetries it has. It was sewn to its mirror image `doubled` times, each time by a new sewing.
 struct shape {
   const char *name;
   uint64_t doubled;
@@ -22,9 +21,8 @@ struct shapes {
 
 const struct shapes *all_shapes(void);
 
-// Changes sewings at one dart and wherever some symmetries of the map, drawn by chance, take it;
-// now and then all but one of these. So `kept` symmetries are left, or a multiple of that. False
-// where trying found no accepted map.
+// Changes sewings at one dart and wherever some symmetries of the map, drawn by chance, take it; now and then all but one of
+// these. So `kept` symmetries are left, or a multiple of that. False where trying found no accepted map.
 bool map_marked(struct chance *chance, const struct map *map, struct map *marked, uint64_t *kept);
 
 #endif

@@ -1,13 +1,12 @@
-// Reads cases in the form of CASES.md from standard input and prints the second program's answers.
-// With the argument `list` it is the layout lister instead.
+// Reads cases in the form of CASES.md from standard input and prints the second program's answers. With the argument `list` it
+// is the layout lister instead.
 #include <inttypes.h>
 #include <string.h>
 
 #include "../cases/ask.h"
 
 static void print_answer(const struct test_case *asked) {
-  static const size_t counts[CALLS] = {
-      [CHECK] = 2, [SIGN] = 4, [MATCH] = 2, [JUDGE] = 2, [DRAWER] = 2, [FIND] = 4, [ADD] = 3};
+  static const size_t counts[CALLS] = {[CHECK] = 2, [SIGN] = 4, [MATCH] = 2, [JUDGE] = 2, [DRAWER] = 2, [FIND] = 4, [ADD] = 3};
   struct answer answer = ask_second(asked);
   for (size_t at = 0; at < counts[asked->call]; at++) {
     printf("%s%" PRIu64, at == 0 ? "" : " ", answer.numbers[at]);

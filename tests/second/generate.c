@@ -1,80 +1,70 @@
-// Prints test cases, or records for the lister: generate SEED KIND [COUNT]. The arguments alone
-// decide every byte.
+// Prints test cases, or records for the lister: generate SEED KIND [COUNT]. The arguments alone decide every byte.
 #include "generate.h"
 
 #include <inttypes.h>
 #include <stdio.h>
+#include <stdlib.h>
 #include <string.h>
 
-// What is printed of each map. Outputs have a chance of their own, so that the maps of one seed
-// are the same ones for both calls.
-struct sink {
-  bool check;
-  bool sign;
-  struct chance outputs;
-};
+// What is printed of each map, its check or its signature or both; which it is, the kind decides. Outputs have a chance of
+// their own, so that the maps of one seed are the same ones for both calls.
+enum { CHECKS = 1, SIGNS = 2 };
+static unsigned printed;
+static struct chance outputs;
 
-static void print_to(struct sink *sink, const struct map *map, enum output_length length) {
-  if (sink->check) {
+static void print_calls_on(const struct map *map, enum output_length length) {
+  if ((printed & CHECKS) != 0) {
     print_check(map);
   }
-  if (sink->sign) {
-    print_sign(&sink->outputs, map, length);
+  if ((printed & SIGNS) != 0) {
+    print_sign(&outputs, map, length);
   }
 }
 
-static void print_any_to(struct sink *sink, const struct map *map) {
-  print_to(sink, map, any_output_length(&sink->outputs));
+static void print_any(const struct map *map) {
+  print_calls_on(map, any_output_length(&outputs));
 }
+
+// ---- A mixture ----
 
 // Weights of the groups: accepted maps by dimension, each refusal, two faults at once.
 enum { MIXTURE_TOTAL = 40, TWO_FAULTS_WEIGHT = 3 };
 static const uint64_t accepted_weights[4] = {2, 4, 4, 4};
 static const uint64_t refused_weights[TABLE_REFUSALS] = {2, 3, 3, 3, 3, 3, 3, 3};
 
-static void print_accepted(struct chance *chance, struct sink *sink, uint64_t n, uint64_t cases,
-                           uint64_t most_entries) {
+static void print_accepted(struct chance *chance, uint64_t n, uint64_t cases, uint64_t most_entries) {
   printf("# accepted, n=%" PRIu64 ": a map, then the same map renumbered\n", n);
   struct map map = map_empty(1, 1);
   for (uint64_t k = 0; k < cases; k++) {
-    if (k % 2 == 0) {
-      map = accepted_map(chance, n, any_size(chance, n, most_entries));
-    } else {
-      map = map_shuffled(chance, &map);
-    }
-    print_any_to(sink, &map);
+    map = k % 2 == 0 ? accepted_map(chance, n, any_size(chance, n, most_entries)) : map_shuffled(chance, &map);
+    print_any(&map);
   }
 }
 
-static void print_mixture(struct chance *chance, struct sink *sink, uint64_t count,
-                          uint64_t most_entries) {
-  uint64_t before = 0;
+static void print_mixture_of(struct chance *chance, uint64_t count, uint64_t most_entries) {
+  struct shares shares = {.count = count, .total = MIXTURE_TOTAL};
   for (uint64_t n = 1; n <= 4; n++) {
-    uint64_t weight = accepted_weights[n - 1];
-    print_accepted(chance, sink, n, share(count, before, weight, MIXTURE_TOTAL), most_entries);
-    before += weight;
+    print_accepted(chance, n, next_share(&shares, accepted_weights[n - 1]), most_entries);
   }
   for (size_t group = 0; group < TABLE_REFUSALS; group++) {
     printf("# fault %u\n", table_refusals[group]);
-    uint64_t cases = share(count, before, refused_weights[group], MIXTURE_TOTAL);
-    for (uint64_t k = 0; k < cases; k++) {
+    for (uint64_t cases = next_share(&shares, refused_weights[group]); cases > 0; cases--) {
       struct map map = refused_map(chance, table_refusals[group], most_entries);
-      print_any_to(sink, &map);
+      print_any(&map);
     }
-    before += refused_weights[group];
   }
   printf("# two faults from 5 to 9\n");
-  uint64_t cases = share(count, before, TWO_FAULTS_WEIGHT, MIXTURE_TOTAL);
-  for (uint64_t k = 0; k < cases; k++) {
+  for (uint64_t cases = next_share(&shares, TWO_FAULTS_WEIGHT); cases > 0; cases--) {
     struct map map = twice_refused_map(chance, most_entries);
-    print_any_to(sink, &map);
+    print_any(&map);
   }
 }
 
-struct size {
-  uint64_t n;
-  uint64_t m;
-};
+static void print_mixture(struct chance *chance, uint64_t count) {
+  print_mixture_of(chance, count, MOST_ENTRIES);
+}
+
+// ---- Chosen sizes ----
 
 // The largest sizes, the first ones beyond them, and the largest that have grids and products.
 static const struct size large_sizes[] = {
@@ -82,7 +72,7 @@ static const struct size large_sizes[] = {
     {3, 336},  {3, 340},  {3, 341}, {4, 240}, {4, 252}, {4, 255}, {4, 256},
 };
 
-static void print_large(struct chance *chance, struct sink *sink) {
+static void print_large(struct chance *chance) {
   for (size_t at = 0; at < sizeof large_sizes / sizeof large_sizes[0]; at++) {
     struct size size = large_sizes[at];
     for (size_t family = 0; family < family_count(); family++) {
@@ -90,11 +80,10 @@ static void print_large(struct chance *chance, struct sink *sink) {
       if (!family_map(chance, family, size.n, size.m, &map)) {
         continue;
       }
-      printf("# n=%" PRIu64 ", m=%" PRIu64 ": %s, then renumbered\n", size.n, size.m,
-             family_name(family));
-      print_to(sink, &map, OUTPUT_EXACT);
+      printf("# n=%" PRIu64 ", m=%" PRIu64 ": %s, then renumbered\n", size.n, size.m, family_name(family));
+      print_calls_on(&map, OUTPUT_EXACT);
       map = map_shuffled(chance, &map);
-      print_to(sink, &map, chance_one_in(chance, 8) ? OUTPUT_SHORT : OUTPUT_LONGER);
+      print_calls_on(&map, chance_one_in(chance, 8) ? OUTPUT_SHORT : OUTPUT_LONGER);
     }
   }
 }
@@ -110,18 +99,20 @@ static const struct tiny_size tiny_sizes[] = {
     {{2, 3}, 3}, {{3, 1}, 2}, {{3, 2}, 2}, {{4, 1}, 2}, {{4, 2}, 2},
 };
 
-static void print_tiny(struct sink *sink) {
+static void print_tiny(struct chance *chance) {
+  (void)chance;
   for (size_t at = 0; at < sizeof tiny_sizes / sizeof tiny_sizes[0]; at++) {
     struct size size = tiny_sizes[at].size;
     uint16_t most = tiny_sizes[at].most;
-    printf("# every table with n=%" PRIu64 ", m=%" PRIu64 " and entries up to %u\n", size.n, size.m,
-           (unsigned)most);
+    printf("# every table with n=%" PRIu64 ", m=%" PRIu64 " and entries up to %u\n", size.n, size.m, (unsigned)most);
     struct map map = map_empty(size.n, size.m);
     do {
-      print_to(sink, &map, OUTPUT_EXACT);
+      print_calls_on(&map, OUTPUT_EXACT);
     } while (next_table(&map, most));
   }
 }
+
+// ---- The bench ----
 
 // A case of the list that the maps of the bench begin with.
 struct named_map {
@@ -147,9 +138,8 @@ static const struct named_map named_maps[] = {
     {"K: 9 at 2", 1, 2, {1, 2}},
     {"L: 8 at 1", 3, 3, {0, 0, 2, 3, 0, 1, 0, 0, 0}},
     {"M: accepted", 3, 3, {0, 0, 2, 0, 0, 1, 2, 0, 0}},
-    {"figure 1 of the paper: accepted", 2, 18, {2,  15, 3,  14, 4,  18, 5,  17, 6,  10, 7,  9,
-                                                1,  8,  9,  7,  10, 6,  11, 5,  8,  12, 13, 11,
-                                                14, 16, 15, 2,  12, 1,  17, 13, 18, 4,  16, 3}},
+    {"figure 1 of the paper: accepted", 2, 18, {2,  15, 3, 14, 4,  18, 5,  17, 6,  10, 7,  9, 1,  8,  9,  7, 10, 6,
+                                                11, 5,  8, 12, 13, 11, 14, 16, 15, 2,  12, 1, 17, 13, 18, 4, 16, 3}},
     {"n of 0: 1 at 0", 0, 2, {0}},
     {"n of 5: 1 at 0", 5, 2, {2, 0, 0, 0, 0, 0, 0, 0, 0, 0}},
 };
@@ -175,24 +165,22 @@ static struct map any_map_of(struct chance *chance, struct size size) {
   return map_shuffled(chance, &map);
 }
 
-static void print_bench(struct chance *chance, struct sink *sink) {
+static void print_bench(struct chance *chance) {
   for (size_t which = 0; which < sizeof named_maps / sizeof named_maps[0]; which++) {
     printf("# %s\n", named_maps[which].name);
     struct map map = named_map(which);
-    print_to(sink, &map, which == CASE_F ? OUTPUT_LONGER : OUTPUT_EXACT);
+    print_calls_on(&map, which == CASE_F ? OUTPUT_LONGER : OUTPUT_EXACT);
   }
   for (size_t at = 0; at < sizeof bench_sizes / sizeof bench_sizes[0]; at++) {
     struct size size = bench_sizes[at];
-    printf("# n=%" PRIu64 ", m=%" PRIu64 ": %s\n", size.n, size.m,
-           size.n * size.m <= MOST_ENTRIES ? "accepted" : "2 at 0");
+    printf("# n=%" PRIu64 ", m=%" PRIu64 ": %s\n", size.n, size.m, size.n * size.m <= MOST_ENTRIES ? "accepted" : "2 at 0");
     struct map map = any_map_of(chance, size);
-    print_to(sink, &map, OUTPUT_EXACT);
+    print_calls_on(&map, OUTPUT_EXACT);
   }
-  print_mixture(chance, sink, BENCH_MIXTURE, BENCH_ENTRIES);
+  print_mixture_of(chance, BENCH_MIXTURE, BENCH_ENTRIES);
 }
 
-static void print_named_match(struct chance *chance, const char *comment, struct map first,
-                              struct map second) {
+static void print_named_match(struct chance *chance, const char *comment, struct map first, struct map second) {
   printf("# %s\n", comment);
   print_match(chance, &first, &second, OUTPUT_EXACT);
 }
@@ -212,74 +200,70 @@ static void print_bench_matches(struct chance *chance) {
   print_named_match(chance, "figure 1 renumbered", figure, map_shuffled(chance, &figure));
   for (size_t at = 0; at < sizeof bench_sizes / sizeof bench_sizes[0]; at++) {
     struct map map = any_map_of(chance, bench_sizes[at]);
-    print_named_match(chance, "one of the large sizes, renumbered", map,
-                      map_shuffled(chance, &map));
+    print_named_match(chance, "one of the large sizes, renumbered", map, map_shuffled(chance, &map));
   }
   print_match_cases(chance, BENCH_MATCHES, BENCH_ENTRIES);
 }
 
-static bool print_kind(const char *kind, uint64_t seed, uint64_t count) {
-  struct chance chance = {.state = seed};
-  struct chance outputs = {.state = ~seed};
-  struct sink checks = {.check = true, .outputs = outputs};
-  struct sink signs = {.sign = true, .outputs = outputs};
-  struct sink both = {.check = true, .sign = true, .outputs = outputs};
-  if (strcmp(kind, "check") == 0) {
-    print_mixture(&chance, &checks, count, MOST_ENTRIES);
-  } else if (strcmp(kind, "sign") == 0) {
-    print_mixture(&chance, &signs, count, MOST_ENTRIES);
-  } else if (strcmp(kind, "match") == 0) {
-    print_match_cases(&chance, count, MOST_ENTRIES);
-  } else if (strcmp(kind, "judge") == 0) {
-    print_judge_cases(&chance, count, MOST_ENTRIES);
-  } else if (strcmp(kind, "drawer") == 0) {
-    print_drawer_cases(&chance, count);
-  } else if (strcmp(kind, "each-drawer") == 0) {
-    print_each_drawer(&chance);
-  } else if (strcmp(kind, "large") == 0) {
-    print_large(&chance, &both);
-  } else if (strcmp(kind, "tiny") == 0) {
-    print_tiny(&both);
-  } else if (strcmp(kind, "large-pairs") == 0) {
-    print_large_pairs(&chance);
-  } else if (strcmp(kind, "tiny-pairs") == 0) {
-    print_tiny_pairs(&chance);
-  } else if (strcmp(kind, "symmetric") == 0) {
-    print_symmetric(&chance, count);
-  } else if (strcmp(kind, "symmetric-pairs") == 0) {
-    print_symmetric_pairs(&chance);
-  } else if (strcmp(kind, "symmetric-drawers") == 0) {
-    print_symmetric_drawers(&chance);
-  } else if (strcmp(kind, "symmetric-records") == 0) {
-    write_symmetric_records(&chance);
-  } else if (strcmp(kind, "records") == 0) {
-    write_records(&chance, count);
-  } else if (strcmp(kind, "bench") == 0) {
-    print_bench(&chance, &checks);
-  } else if (strcmp(kind, "bench-sign") == 0) {
-    print_bench(&chance, &signs);
-  } else if (strcmp(kind, "bench-match") == 0) {
-    print_bench_matches(&chance);
-  } else {
-    return false;
-  }
-  return true;
+// ---- Kinds ----
+
+static void print_matches(struct chance *chance, uint64_t count) {
+  print_match_cases(chance, count, MOST_ENTRIES);
 }
 
-// Decimal digits only; false for anything else, a sign and an overlong number included.
-static bool read_number(const char *text, uint64_t *number) {
-  *number = 0;
-  for (const char *digit = text; *digit != '\0'; digit++) {
-    if (*digit < '0' || *digit > '9' || *number > UINT64_MAX / 10) {
-      return false;
+// What prints a kind wants a count, or does not.
+struct kind {
+  const char *name;
+  unsigned printed;
+  void (*print_all)(struct chance *chance);
+  void (*print)(struct chance *chance, uint64_t count);
+};
+
+static const struct kind kinds[] = {
+    {"check", CHECKS, .print = print_mixture},
+    {"sign", SIGNS, .print = print_mixture},
+    {"match", .print = print_matches},
+    {"judge", .print = print_judge_cases},
+    {"drawer", .print = print_drawer_cases},
+    {"each-drawer", .print_all = print_each_drawer},
+    {"large", CHECKS | SIGNS, .print_all = print_large},
+    {"large-pairs", .print_all = print_large_pairs},
+    {"tiny", CHECKS | SIGNS, .print_all = print_tiny},
+    {"tiny-pairs", .print_all = print_tiny_pairs},
+    {"symmetric", .print = print_symmetric},
+    {"symmetric-pairs", .print_all = print_symmetric_pairs},
+    {"symmetric-drawers", .print_all = print_symmetric_drawers},
+    {"symmetric-records", .print_all = write_symmetric_records},
+    {"records", .print = write_records},
+    {"bench", CHECKS, .print_all = print_bench},
+    {"bench-sign", SIGNS, .print_all = print_bench},
+    {"bench-match", .print_all = print_bench_matches},
+};
+
+enum { KINDS = sizeof kinds / sizeof kinds[0] };
+
+static bool print_kind(const char *name, uint64_t seed, uint64_t count) {
+  struct chance chance = {.state = seed};
+  outputs.state = ~seed;
+  for (const struct kind *kind = kinds; kind < kinds + KINDS; kind++) {
+    if (strcmp(name, kind->name) == 0) {
+      printed = kind->printed;
+      if (kind->print != NULL) {
+        kind->print(&chance, count);
+      } else {
+        kind->print_all(&chance);
+      }
+      return true;
     }
-    uint64_t value = (uint64_t)(*digit - '0');
-    if (*number * 10 > UINT64_MAX - value) {
-      return false;
-    }
-    *number = *number * 10 + value;
   }
-  return *text != '\0';
+  return false;
+}
+
+// Decimal digits only, and at most as many as always fit 64 bits.
+static bool read_number(const char *text, uint64_t *number) {
+  size_t digits = strspn(text, "0123456789");
+  *number = strtoull(text, NULL, 10);
+  return digits > 0 && digits < 20 && text[digits] == '\0';
 }
 
 int main(int argc, char **argv) {
@@ -290,11 +274,11 @@ int main(int argc, char **argv) {
     understood = read_number(argv[3], &count) && count <= 1000000;
   }
   if (!understood || !print_kind(argv[2], seed, count)) {
-    fprintf(stderr,
-            "usage: generate SEED KIND [COUNT], COUNT up to 1000000, KIND one of\n"
-            "check sign match judge drawer each-drawer large large-pairs tiny tiny-pairs\n"
-            "symmetric symmetric-pairs symmetric-drawers symmetric-records records\n"
-            "bench bench-sign bench-match\n");
+    fprintf(stderr, "usage: generate SEED KIND [COUNT], COUNT up to 1000000, KIND one of");
+    for (size_t at = 0; at < KINDS; at++) {
+      fprintf(stderr, "%s%s", at % 8 == 0 ? "\n" : " ", kinds[at].name);
+    }
+    fprintf(stderr, "\n");
     return 2;
   }
   return fflush(stdout) == 0 && !ferror(stdout) ? 0 : 1;

@@ -6,15 +6,13 @@
 #include "generate_drawers.h"
 
 void print_call(enum call call, uint32_t die, const struct map *map, const struct drawer *drawer) {
-  print_case(&(struct test_case){.call = call, .die = die, .first = map_lent(map),
-                                 .count = drawer->count,
-                                 .drawer = {drawer->bytes, drawer->length}});
+  print_case(&(struct test_case){
+      .call = call, .die = die, .first = map_lent(map), .count = drawer->count, .drawer = {drawer->bytes, drawer->length}});
 }
 
 static const enum call drawer_calls[DRAWER_CALLS] = {DRAWER, FIND, RECORD, ADD};
 
-uint64_t print_calls(uint64_t most, uint32_t die, const struct map *map,
-                     const struct drawer *drawer) {
+uint64_t print_calls(uint64_t most, uint32_t die, const struct map *map, const struct drawer *drawer) {
   uint64_t printed = 0;
   for (; printed < DRAWER_CALLS && printed < most; printed++) {
     print_call(drawer_calls[printed], die, map, drawer);
@@ -23,8 +21,7 @@ uint64_t print_calls(uint64_t most, uint32_t die, const struct map *map,
 }
 
 static size_t any_spare(struct chance *chance) {
-  static const size_t spares[] = {
-      0, 1, RECORD_BYTES - 1, RECORD_BYTES, RECORD_BYTES + 5, 2 * RECORD_BYTES};
+  static const size_t spares[] = {0, 1, RECORD_BYTES - 1, RECORD_BYTES, RECORD_BYTES + 5, 2 * RECORD_BYTES};
   return spares[chance_below(chance, sizeof spares / sizeof spares[0])];
 }
 
@@ -64,9 +61,9 @@ static void print_alike(struct chance *chance, uint64_t cases) {
     struct drawer drawer = good_drawer(chance, 0, 4 * RECORD_BYTES, chance_one_in(chance, 2));
     const struct map *filed = which % 2 == 0 ? &two_darts : &one_dart;
     const struct map *wanted = which % 2 == 0 ? &one_dart : &two_darts;
-    drawer_file(chance, &drawer, filed);
+    drawer_add(&drawer, unfiled_die(chance, &drawer), filed);
     if (which % 3 == 2) {
-      drawer_file(chance, &drawer, wanted);
+      drawer_add(&drawer, unfiled_die(chance, &drawer), wanted);
     }
     uint32_t die = unfiled_die(chance, &drawer);
     k += print_calls(cases - k, die, wanted, &drawer);
@@ -96,19 +93,12 @@ static struct drawer spoiled_drawer(struct chance *chance, enum spoil spoil, str
     uint64_t hit = 1 + chance_below(chance, drawer.count);
     *wanted = filed_map(chance, &drawer, hit);
     if (spoil_record(chance, &drawer, bad, spoil)) {
-      printf("# record %" PRIu64 " of %" PRIu64 " spoiled: %s; the layout was in record %" PRIu64
-             "\n",
-             bad, drawer.count, spoil_name(spoil), hit);
+      printf("# record %" PRIu64 " of %" PRIu64 " spoiled: %s; the layout was in record %" PRIu64 "\n", bad, drawer.count,
+             spoil_names[spoil], hit);
       return drawer;
     }
     drawer_free(&drawer);
   }
-}
-
-static void spoil_some_other(struct chance *chance, struct drawer *drawer) {
-  uint64_t record = 1 + chance_below(chance, drawer->count);
-  put_die(drawer_record(drawer, record), 0);
-  printf("# and record %" PRIu64 " spoiled: die 0\n", record);
 }
 
 static void print_spoiled(struct chance *chance, uint64_t cases) {
@@ -117,7 +107,9 @@ static void print_spoiled(struct chance *chance, uint64_t cases) {
     struct map wanted;
     struct drawer drawer = spoiled_drawer(chance, spoil % SPOIL_COUNT, &wanted);
     if (chance_one_in(chance, 5)) {
-      spoil_some_other(chance, &drawer);
+      uint64_t other = 1 + chance_below(chance, drawer.count);
+      put_die(drawer_record(&drawer, other), 0);
+      printf("# and record %" PRIu64 " spoiled: die 0\n", other);
     }
     uint32_t die = chance_one_in(chance, 3) ? 0 : unfiled_die(chance, &drawer);
     k += print_calls(cases - k, die, &wanted, &drawer);
@@ -168,57 +160,56 @@ static void print_refused_maps(struct chance *chance, uint64_t cases) {
   }
 }
 
-// Which die and layout are to be filed, and how much room there is.
+// What is wrong with a filing besides the room that there is.
+enum { DIE_ZERO = 1, DIE_FILED = 2, LAYOUT_FILED = 4, EMPTY = 8, BAD_RECORD = 16 };
+
 struct filing {
   const char *comment;
-  bool die_zero;
-  bool die_filed;
-  bool layout_filed;
-  bool empty;
-  bool spoiled;
+  unsigned what;
   size_t spare;
 };
 
 enum { WITH_ROOM = RECORD_BYTES, NO_ROOM = 0, NEARLY_ROOM = RECORD_BYTES - 1 };
 
 static const struct filing filings[] = {
-    {"die 0", true, false, false, false, false, WITH_ROOM},
-    {"die filed", false, true, false, false, false, WITH_ROOM},
-    {"layout filed under another die and numbering", false, false, true, false, false, WITH_ROOM},
-    {"die filed and layout filed", false, true, true, false, false, 2 * WITH_ROOM + 9},
-    {"die 0 and layout filed", true, false, true, false, false, WITH_ROOM},
-    {"no room", false, false, false, false, false, NO_ROOM},
-    {"one byte less than room", false, false, false, false, false, NEARLY_ROOM},
-    {"no room, die 0", true, false, false, false, false, NO_ROOM},
-    {"no room, die filed", false, true, false, false, false, NO_ROOM},
-    {"no room, layout filed", false, false, true, false, false, NEARLY_ROOM},
-    {"no room, a bad record", false, false, false, false, true, NO_ROOM},
-    {"empty, no bytes at all", false, false, false, true, false, NO_ROOM},
-    {"empty, one byte less than room", false, false, false, true, false, NEARLY_ROOM},
-    {"empty, exactly room", false, false, false, true, false, WITH_ROOM},
-    {"empty, more than room", false, false, false, true, false, WITH_ROOM + 700},
-    {"exactly room", false, false, false, false, false, WITH_ROOM},
-    {"more than room", false, false, false, false, false, 2 * WITH_ROOM + 1},
+    {"die 0", DIE_ZERO, WITH_ROOM},
+    {"die filed", DIE_FILED, WITH_ROOM},
+    {"layout filed under another die and numbering", LAYOUT_FILED, WITH_ROOM},
+    {"die filed and layout filed", DIE_FILED | LAYOUT_FILED, 2 * WITH_ROOM + 9},
+    {"die 0 and layout filed", DIE_ZERO | LAYOUT_FILED, WITH_ROOM},
+    {"no room", 0, NO_ROOM},
+    {"one byte less than room", 0, NEARLY_ROOM},
+    {"no room, die 0", DIE_ZERO, NO_ROOM},
+    {"no room, die filed", DIE_FILED, NO_ROOM},
+    {"no room, layout filed", LAYOUT_FILED, NEARLY_ROOM},
+    {"no room, a bad record", BAD_RECORD, NO_ROOM},
+    {"empty, no bytes at all", EMPTY, NO_ROOM},
+    {"empty, one byte less than room", EMPTY, NEARLY_ROOM},
+    {"empty, exactly room", EMPTY, WITH_ROOM},
+    {"empty, more than room", EMPTY, WITH_ROOM + 700},
+    {"exactly room", 0, WITH_ROOM},
+    {"more than room", 0, 2 * WITH_ROOM + 1},
 };
 
 static void print_filing(struct chance *chance, const struct filing *filing) {
-  uint64_t count = filing->empty ? 0 : 2 + chance_below(chance, 6);
+  bool empty = (filing->what & EMPTY) != 0;
+  uint64_t count = empty ? 0 : 2 + chance_below(chance, 6);
   struct drawer drawer = good_drawer(chance, count, filing->spare, chance_one_in(chance, 2));
   struct map map = unfiled_map(chance, &drawer);
   uint32_t die = unfiled_die(chance, &drawer);
-  uint64_t record = filing->empty ? 0 : 1 + chance_below(chance, count);
-  if (filing->layout_filed) {
+  uint64_t record = empty ? 0 : 1 + chance_below(chance, count);
+  if ((filing->what & LAYOUT_FILED) != 0) {
     map = filed_map(chance, &drawer, record);
   }
-  if (filing->die_filed) {
+  if ((filing->what & DIE_FILED) != 0) {
     // Another record than the one with the layout.
     die = record_die(drawer_record(&drawer, record % count + 1));
   }
-  if (filing->spoiled) {
+  if ((filing->what & BAD_RECORD) != 0) {
     spoil_record(chance, &drawer, record, SPOIL_ZERO_BYTE);
   }
   printf("# filing: %s\n", filing->comment);
-  print_call(ADD, filing->die_zero ? 0 : die, &map, &drawer);
+  print_call(ADD, (filing->what & DIE_ZERO) != 0 ? 0 : die, &map, &drawer);
   drawer_free(&drawer);
 }
 
@@ -229,48 +220,38 @@ static void print_filings(struct chance *chance, uint64_t cases) {
   }
 }
 
-// Behind the 1,024 records there are the bytes of one more, so it is not room that is lacking.
+// A call on a full drawer, lent with a count near its own, with the last record's die and layout or new ones.
+struct full_call {
+  enum call call;
+  uint64_t count;
+  bool last_die;
+  bool last_layout;
+};
+
+static const struct full_call full_calls[] = {
+    {ADD, MOST_RECORDS, false, false},   {ADD, MOST_RECORDS - 1, false, false}, {ADD, MOST_RECORDS, true, false},
+    {ADD, MOST_RECORDS, false, true},    {FIND, MOST_RECORDS, false, true},     {DRAWER, MOST_RECORDS + 1, false, true},
+    {DRAWER, MOST_RECORDS, false, true}, {RECORD, MOST_RECORDS, false, true},   {FIND, MOST_RECORDS - 1, false, true},
+};
+
+enum { FULL_CALLS = sizeof full_calls / sizeof full_calls[0] };
+
+// Behind the 1,024 records there are the bytes of one more, so it is not room that is lacking. After all the calls comes a
+// drawer whose last record has the die of the first.
 static void print_full(struct chance *chance, struct drawer *drawer, uint64_t turn) {
   struct map unfiled = unfiled_map(chance, drawer);
   struct map last = filed_map(chance, drawer, MOST_RECORDS);
   uint32_t last_die = record_die(drawer_record(drawer, MOST_RECORDS));
   uint32_t new_die = unfiled_die(chance, drawer);
-  switch (turn % 10) {
-  case 0:
-    print_call(ADD, new_die, &unfiled, drawer);
-    break;
-  case 1:
-    drawer->count = MOST_RECORDS - 1;
-    print_call(ADD, new_die, &unfiled, drawer);
-    break;
-  case 2:
-    print_call(ADD, last_die, &unfiled, drawer);
-    break;
-  case 3:
-    print_call(ADD, new_die, &last, drawer);
-    break;
-  case 4:
-    print_call(FIND, 0, &last, drawer);
-    break;
-  case 5:
-    drawer->count = MOST_RECORDS + 1;
-    print_call(DRAWER, 0, &last, drawer);
-    break;
-  case 6:
-    print_call(DRAWER, 0, &last, drawer);
-    break;
-  case 7:
-    print_call(RECORD, 0, &last, drawer);
-    break;
-  case 8:
-    drawer->count = MOST_RECORDS - 1;
-    print_call(FIND, 0, &last, drawer);
-    break;
-  default:
+  if (turn % (FULL_CALLS + 1) == FULL_CALLS) {
     put_die(drawer_record(drawer, MOST_RECORDS), record_die(drawer_record(drawer, 1)));
     print_call(DRAWER, 0, &last, drawer);
     put_die(drawer_record(drawer, MOST_RECORDS), last_die);
+    return;
   }
+  const struct full_call *full = &full_calls[turn % (FULL_CALLS + 1)];
+  drawer->count = full->count;
+  print_call(full->call, full->last_die ? last_die : new_die, full->last_layout ? &last : &unfiled, drawer);
   drawer->count = MOST_RECORDS;
 }
 
@@ -312,11 +293,7 @@ static void print_history(struct chance *chance, uint64_t cases) {
       continue;
     }
     print_call(ADD, die, &map, &drawer);
-    struct second_filed filed =
-        second_add(die, map_lent(&map), drawer.count, drawer.bytes, drawer.length);
-    if (filed.number == 0) {
-      drawer.count = filed.count;
-    }
+    drawer_add(&drawer, die, &map);
   }
   drawer_free(&drawer);
 }
@@ -327,18 +304,18 @@ struct drawer_group {
 };
 
 static const struct drawer_group drawer_groups[] = {
-    {20, print_good},    {12, print_alike},      {8, print_behind_count},
-    {56, print_spoiled}, {20, print_bad_counts}, {34, print_refused_maps},
-    {26, print_filings}, {14, print_history},    {10, print_fulls},
+    {20, print_good},         {12, print_alike},   {8, print_behind_count}, {56, print_spoiled}, {20, print_bad_counts},
+    {34, print_refused_maps}, {26, print_filings}, {14, print_history},     {10, print_fulls},
 };
 
-enum { DRAWER_TOTAL = 20 + 12 + 8 + 56 + 20 + 34 + 26 + 14 + 10 };
+enum { DRAWER_GROUPS = sizeof drawer_groups / sizeof drawer_groups[0] };
 
 void print_drawer_cases(struct chance *chance, uint64_t count) {
-  uint64_t before = 0;
-  for (size_t group = 0; group < sizeof drawer_groups / sizeof drawer_groups[0]; group++) {
-    uint64_t weight = drawer_groups[group].weight;
-    drawer_groups[group].print(chance, share(count, before, weight, DRAWER_TOTAL));
-    before += weight;
+  struct shares shares = {.count = count};
+  for (size_t at = 0; at < DRAWER_GROUPS; at++) {
+    shares.total += drawer_groups[at].weight;
+  }
+  for (size_t at = 0; at < DRAWER_GROUPS; at++) {
+    drawer_groups[at].print(chance, next_share(&shares, drawer_groups[at].weight));
   }
 }

@@ -67,16 +67,19 @@ static struct map any_filed_map(struct chance *chance) {
   return any_accepted_map(chance, chance_one_in(chance, 10) ? MOST_ENTRIES : 40);
 }
 
+unsigned drawer_add(struct drawer *drawer, uint32_t die, const struct map *map) {
+  struct second_filed filed = second_add(die, map_lent(map), drawer->count, drawer->bytes, drawer->length);
+  drawer->count += filed.number == 0;
+  return filed.number;
+}
+
 struct drawer good_drawer(struct chance *chance, uint64_t count, size_t spare, bool garbage) {
   struct drawer drawer = blank_drawer(chance, count * RECORD_BYTES + spare, garbage);
   while (drawer.count < count) {
     struct map map = any_filed_map(chance);
-    struct second_filed filed =
-        second_add(any_die(chance), map_lent(&map), drawer.count, drawer.bytes, drawer.length);
-    if (filed.number == 0) {
-      drawer.count = filed.count;
-    } else if (filed.number != 16 && filed.number != 17) {
-      fail("filing in a good drawer", filed.number);
+    unsigned number = drawer_add(&drawer, any_die(chance), &map);
+    if (number != 0 && number != 16 && number != 17) {
+      fail("filing in a good drawer", number);
     }
   }
   return drawer;
@@ -145,68 +148,43 @@ uint32_t unfiled_die(struct chance *chance, const struct drawer *drawer) {
   return die;
 }
 
-void drawer_file(struct chance *chance, struct drawer *drawer, const struct map *map) {
-  uint32_t die = unfiled_die(chance, drawer);
-  struct second_filed filed =
-      second_add(die, map_lent(map), drawer->count, drawer->bytes, drawer->length);
-  if (filed.number != 0) {
-    fail("filing a new layout", filed.number);
+// ---- Faults ----
+
+const char *const spoil_names[SPOIL_COUNT] = {
+    "die 0",
+    "n out of bounds",
+    "m of 0",
+    "m too large",
+    "zero byte set",
+    "first filling byte set",
+    "last filling byte set",
+    "some filling byte set",
+    "word not accepted",
+    "word accepted but not its own signature",
+    "word read with another n or m",
+    "die repeated",
+    "layout repeated",
+};
+
+void spoil_zero(struct chance *chance, uint8_t *byte) {
+  *byte = (uint8_t)(1 + chance_below(chance, 255));
+}
+
+bool filling_places(struct chance *chance, size_t numbers, size_t places[3]) {
+  size_t first = RECORD_WORD_AT + 2 * numbers;
+  if (first >= RECORD_BYTES) {
+    return false;
   }
-  drawer->count = filed.count;
-}
-
-const char *spoil_name(enum spoil spoil) {
-  static const char *const names[SPOIL_COUNT] = {
-      "die 0",
-      "n out of bounds",
-      "m of 0",
-      "m too large",
-      "zero byte set",
-      "first filling byte set",
-      "last filling byte set",
-      "some filling byte set",
-      "word not accepted",
-      "word accepted but not its own signature",
-      "word read with another n or m",
-      "die repeated",
-      "layout repeated",
-  };
-  return names[spoil];
-}
-
-static uint8_t any_nonzero_byte(struct chance *chance) {
-  return (uint8_t)(1 + chance_below(chance, 255));
-}
-
-// A word of 1,020 numbers leaves no filling; then nothing is set.
-static void spoil_filling(struct chance *chance, uint8_t *record, enum spoil spoil) {
-  size_t filling_at = RECORD_WORD_AT + 2 * record_map(record).length;
-  if (filling_at < RECORD_BYTES) {
-    size_t at = filling_at + (size_t)chance_below(chance, RECORD_BYTES - filling_at);
-    if (spoil == SPOIL_FIRST_FILLING) {
-      at = filling_at;
-    } else if (spoil == SPOIL_LAST_FILLING) {
-      at = RECORD_BYTES - 1;
-    }
-    record[at] = any_nonzero_byte(chance);
-  }
-}
-
-static void spoil_word(struct chance *chance, uint8_t *record, enum spoil spoil) {
-  struct map map = record_map(record);
-  if (spoil == SPOIL_WORD_REFUSED) {
-    map = refused_map(chance, 5 + (unsigned)chance_below(chance, 5), 60);
-  } else {
-    map = map_shuffled(chance, &map);
-  }
-  put_record(record, record_die(record), map_lent(&map));
+  places[0] = first;
+  places[1] = RECORD_BYTES - 1;
+  places[2] = first + (size_t)chance_below(chance, RECORD_BYTES - first);
+  return true;
 }
 
 static void spoil_sizes(struct chance *chance, uint8_t *record) {
   uint64_t entries = record_map(record).length;
   if (chance_one_in(chance, 2)) {
-    put_16(record + RECORD_M_AT,
-           (uint64_t)get_16(record + RECORD_M_AT) + (chance_one_in(chance, 2) ? 1 : UINT64_MAX));
+    put_16(record + RECORD_M_AT, (uint64_t)get_16(record + RECORD_M_AT) + (chance_one_in(chance, 2) ? 1 : UINT64_MAX));
     return;
   }
   uint64_t n = 1 + chance_below(chance, 4);
@@ -216,65 +194,51 @@ static void spoil_sizes(struct chance *chance, uint8_t *record) {
   }
 }
 
-static void spoil_head(struct chance *chance, uint8_t *record, enum spoil spoil) {
+// Some faults do not come out each time, and a repeated one never in record 1.
+static void spoil_once(struct chance *chance, struct drawer *drawer, uint64_t record, enum spoil spoil) {
   static const uint8_t wrong_n[] = {0, 5, 255, 6, 128};
-  uint64_t n = record[RECORD_N_AT];
+  uint8_t *own = drawer_record(drawer, record);
+  struct map map = record_map(own);
+  size_t places[3];
   switch (spoil) {
   case SPOIL_DIE_ZERO:
-    put_die(record, 0);
+    put_die(own, 0);
     break;
   case SPOIL_N_OUT_OF_BOUNDS:
-    record[RECORD_N_AT] = wrong_n[chance_below(chance, sizeof wrong_n)];
+    own[RECORD_N_AT] = wrong_n[chance_below(chance, sizeof wrong_n)];
     break;
   case SPOIL_M_ZERO:
-    put_16(record + RECORD_M_AT, 0);
+    put_16(own + RECORD_M_AT, 0);
     break;
   case SPOIL_M_TOO_LARGE:
-    put_16(record + RECORD_M_AT,
-           chance_one_in(chance, 2) ? UINT16_MAX : MOST_ENTRIES / n + 1);
+    put_16(own + RECORD_M_AT, chance_one_in(chance, 2) ? UINT16_MAX : MOST_ENTRIES / map.n + 1);
     break;
-  default:
-    record[RECORD_ZERO_AT] = any_nonzero_byte(chance);
-  }
-}
-
-// Copies the die or the layout of an earlier record.
-static void spoil_by_repeating(struct chance *chance, const struct drawer *drawer, uint64_t record,
-                               enum spoil spoil) {
-  if (record < 2) {
-    return;
-  }
-  uint8_t *own = drawer_record(drawer, record);
-  const uint8_t *earlier = drawer_record(drawer, 1 + chance_below(chance, record - 1));
-  if (spoil == SPOIL_DIE_REPEATED) {
-    put_die(own, record_die(earlier));
-  } else {
-    memcpy(own + RECORD_N_AT, earlier + RECORD_N_AT, RECORD_BYTES - RECORD_N_AT);
-  }
-}
-
-static void spoil_once(struct chance *chance, struct drawer *drawer, uint64_t record,
-                       enum spoil spoil) {
-  uint8_t *own = drawer_record(drawer, record);
-  switch (spoil) {
-  case SPOIL_FIRST_FILLING:
-  case SPOIL_LAST_FILLING:
-  case SPOIL_SOME_FILLING:
-    spoil_filling(chance, own, spoil);
+  case SPOIL_ZERO_BYTE:
+    spoil_zero(chance, own + RECORD_ZERO_AT);
     break;
   case SPOIL_WORD_REFUSED:
+    map = refused_map(chance, 5 + (unsigned)chance_below(chance, 5), 60);
+    put_record(own, record_die(own), map_lent(&map));
+    break;
   case SPOIL_WORD_RENUMBERED:
-    spoil_word(chance, own, spoil);
+    map = map_shuffled(chance, &map);
+    put_record(own, record_die(own), map_lent(&map));
     break;
   case SPOIL_SIZES:
     spoil_sizes(chance, own);
     break;
   case SPOIL_DIE_REPEATED:
   case SPOIL_LAYOUT_REPEATED:
-    spoil_by_repeating(chance, drawer, record, spoil);
+    if (record >= 2) {
+      const uint8_t *earlier = drawer_record(drawer, 1 + chance_below(chance, record - 1));
+      bool die = spoil == SPOIL_DIE_REPEATED;
+      memcpy(own + (die ? 0 : RECORD_N_AT), earlier + (die ? 0 : RECORD_N_AT), die ? RECORD_N_AT : RECORD_BYTES - RECORD_N_AT);
+    }
     break;
   default:
-    spoil_head(chance, own, spoil);
+    if (filling_places(chance, map.length, places)) {
+      spoil_zero(chance, own + places[spoil - SPOIL_FIRST_FILLING]);
+    }
   }
 }
 

@@ -15,8 +15,8 @@ struct drawer {
 // Records count from 1.
 uint8_t *drawer_record(const struct drawer *drawer, uint64_t record);
 
-// Both have `spare` bytes behind the counted records, of chance where `garbage` is set. The packed
-// one is filed without the reference calls, which take long on many records, and checked once.
+// Both have `spare` bytes behind the counted records, of chance where `garbage` is set. The packed one is filed without the
+// reference calls, which take long on many records, and checked once.
 struct drawer good_drawer(struct chance *chance, uint64_t count, size_t spare, bool garbage);
 struct drawer packed_drawer(struct chance *chance, uint64_t count, size_t spare);
 void drawer_free(struct drawer *drawer);
@@ -28,8 +28,8 @@ struct map filed_map(struct chance *chance, const struct drawer *drawer, uint64_
 struct map unfiled_map(struct chance *chance, const struct drawer *drawer);
 uint32_t unfiled_die(struct chance *chance, const struct drawer *drawer);
 
-// Files a layout that is not filed yet, under a new die number.
-void drawer_file(struct chance *chance, struct drawer *drawer, const struct map *map);
+// Files a map, and says which number that gives.
+unsigned drawer_add(struct drawer *drawer, uint32_t die, const struct map *map);
 
 enum spoil {
   SPOIL_DIE_ZERO,
@@ -47,22 +47,26 @@ enum spoil {
   SPOIL_LAYOUT_REPEATED,
   SPOIL_COUNT
 };
-const char *spoil_name(enum spoil spoil);
+extern const char *const spoil_names[SPOIL_COUNT];
 
 // Makes the record bad; false where this spoil cannot do it, and then the drawer is as it was.
 bool spoil_record(struct chance *chance, struct drawer *drawer, uint64_t record, enum spoil spoil);
 
-// Counts that are above 1,024 or want more bytes than a drawer of a few records has: those that
-// narrow numbers would take for the true one are among them, and those whose bytes would wrap to
-// nothing or to one record.
+// Puts something in a byte that must be 0.
+void spoil_zero(struct chance *chance, uint8_t *byte);
+
+// The filling's first byte behind so many numbers, its last one, and some other; false where it has none.
+bool filling_places(struct chance *chance, size_t numbers, size_t places[3]);
+
+// Counts that are above 1,024 or want more bytes than a drawer of a few records has: those that narrow numbers would take for
+// the true one are among them, and those whose bytes would wrap to nothing or to one record.
 enum { BAD_COUNTS = 11 };
 uint64_t bad_count(uint64_t turn, const struct drawer *drawer);
 
-// Prints one call on the drawer; or up to so many in turn, the check, search, the record handed
-// back and filing, and says how many.
+// Prints one call on the drawer; or up to so many in turn, the check, search, the record handed back and filing, and says how
+// many.
 enum { DRAWER_CALLS = 4 };
 void print_call(enum call call, uint32_t die, const struct map *map, const struct drawer *drawer);
-uint64_t print_calls(uint64_t most, uint32_t die, const struct map *map,
-                     const struct drawer *drawer);
+uint64_t print_calls(uint64_t most, uint32_t die, const struct map *map, const struct drawer *drawer);
 
 #endif

@@ -5,8 +5,8 @@
 #include "generate.h"
 #include "generate_drawers.h"
 
-// A size that all drawers below have but the smallest and the full ones: first, middle and last
-// record differ, and there are records between them.
+// A size that all drawers below have but the smallest and the full ones: first, middle and last record differ, and there are
+// records between them.
 enum { SOME_RECORDS = 7, MIDDLE_RECORD = 4 };
 
 static struct drawer some_drawer(struct chance *chance) {
@@ -31,8 +31,8 @@ static void print_size(struct chance *chance, uint64_t count) {
   drawer_free(&drawer);
 }
 
-// The layout is one before the fault where there is one, so that a search that stops at its hit is
-// found out, and then one behind it.
+// The layout is one before the fault where there is one, so that a search that stops at its hit is found out, and then one
+// behind it.
 static void print_fault(struct chance *chance, enum spoil spoil, uint64_t bad) {
   for (int tries = 0; tries < 20; tries++) {
     struct drawer drawer = some_drawer(chance);
@@ -41,7 +41,7 @@ static void print_fault(struct chance *chance, enum spoil spoil, uint64_t bad) {
     uint32_t die = unfiled_die(chance, &drawer);
     bool spoiled = spoil_record(chance, &drawer, bad, spoil);
     if (spoiled) {
-      printf("# record %" PRIu64 " of %d spoiled: %s\n", bad, SOME_RECORDS, spoil_name(spoil));
+      printf("# record %" PRIu64 " of %d spoiled: %s\n", bad, SOME_RECORDS, spoil_names[spoil]);
       print_calls(DRAWER_CALLS, die, &before, &drawer);
       print_call(FIND, die, &behind, &drawer);
     }
@@ -51,7 +51,7 @@ static void print_fault(struct chance *chance, enum spoil spoil, uint64_t bad) {
     }
   }
   // Nothing stands before the first record that it could repeat.
-  printf("# record %" PRIu64 " cannot be spoiled: %s\n", bad, spoil_name(spoil));
+  printf("# record %" PRIu64 " cannot be spoiled: %s\n", bad, spoil_names[spoil]);
 }
 
 // The fault is in the last record of a full drawer, and the layout is in the first.
@@ -60,7 +60,7 @@ static void print_full_fault(struct chance *chance, struct drawer *drawer, enum 
   struct map last = record_map(drawer_record(drawer, MOST_RECORDS));
   uint32_t last_die = record_die(drawer_record(drawer, MOST_RECORDS));
   if (spoil_record(chance, drawer, MOST_RECORDS, spoil)) {
-    printf("# the last of 1,024 records spoiled: %s\n", spoil_name(spoil));
+    printf("# the last of 1,024 records spoiled: %s\n", spoil_names[spoil]);
     print_call(DRAWER, 0, &first, drawer);
     print_call(FIND, 0, &first, drawer);
   }

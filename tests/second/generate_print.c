@@ -31,23 +31,21 @@ void print_check(const struct map *map) {
 void print_sign(struct chance *chance, const struct map *map, enum output_length length) {
   bool sized = map->n >= 1 && map->n <= 4 && map->m <= MOST_ENTRIES;
   size_t needed = sized ? (size_t)(map->n * map->m) : map->length;
-  print_case(&(struct test_case){.call = SIGN, .first = map_lent(map),
-                                 .list = any_output(chance, needed, length)});
+  print_case(&(struct test_case){.call = SIGN, .first = map_lent(map), .list = any_output(chance, needed, length)});
 }
 
-void print_match(struct chance *chance, const struct map *first, const struct map *second,
-                 enum output_length length) {
+void print_match(struct chance *chance, const struct map *first, const struct map *second, enum output_length length) {
   size_t needed = first->m <= MOST_ENTRIES ? (size_t)first->m : first->length;
-  print_case(&(struct test_case){.call = MATCH, .first = map_lent(first),
-                                 .second = map_lent(second),
-                                 .list = any_output(chance, needed, length)});
+  print_case(&(struct test_case){
+      .call = MATCH, .first = map_lent(first), .second = map_lent(second), .list = any_output(chance, needed, length)});
 }
 
 void print_judge(const struct map *first, const struct map *second, uint16_t *list, size_t length) {
-  print_case(&(struct test_case){.call = JUDGE, .first = map_lent(first),
-                                 .second = map_lent(second), .list = {list, length}});
+  print_case(&(struct test_case){.call = JUDGE, .first = map_lent(first), .second = map_lent(second), .list = {list, length}});
 }
 
-uint64_t share(uint64_t count, uint64_t before, uint64_t weight, uint64_t total) {
-  return count * (before + weight) / total - count * before / total;
+uint64_t next_share(struct shares *shares, uint64_t weight) {
+  uint64_t dealt = shares->count * shares->before / shares->total;
+  shares->before += weight;
+  return shares->count * shares->before / shares->total - dealt;
 }

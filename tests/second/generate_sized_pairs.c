@@ -6,26 +6,15 @@
 
 #include "generate.h"
 
-struct size {
-  uint64_t n;
-  uint64_t m;
-};
-
 // ---- The largest sizes ----
 
 static const struct size largest_sizes[] = {{1, 1020}, {2, 510}, {3, 340}, {4, 255}};
 
-// False where trying found no such map: some are closed and would fall apart.
-static bool with_one_sewing_changed(struct chance *chance, const struct map *map,
-                                    struct map *changed) {
-  return map_less_one_sewing(chance, map, changed) ||
-         map_with_loose_end_turned(chance, map, changed);
-}
-
 // Which side is the changed one is left to chance. The list is right but for the changed sewing.
 static void print_near_twins(struct chance *chance, const struct map *map, uint16_t *to) {
   struct map changed;
-  if (!with_one_sewing_changed(chance, map, &changed)) {
+  // Some maps are closed and would fall apart.
+  if (!map_less_one_sewing(chance, map, &changed) && !map_with_loose_end_turned(chance, map, &changed)) {
     return;
   }
   bool first_changed = chance_one_in(chance, 2);
@@ -71,8 +60,8 @@ void print_large_pairs(struct chance *chance) {
       if (stands_again(family) || !family_map(chance, family, size.n, size.m, &map)) {
         continue;
       }
-      printf("# n=%" PRIu64 ", m=%" PRIu64 ": %s, against a copy, another map and a near twin\n",
-             size.n, size.m, family_name(family));
+      printf("# n=%" PRIu64 ", m=%" PRIu64 ": %s, against a copy, another map and a near twin\n", size.n, size.m,
+             family_name(family));
       // Dart 1 is anywhere then, and not always at an end.
       map = map_shuffled(chance, &map);
       print_pairs_of(chance, &map);

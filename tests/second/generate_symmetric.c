@@ -15,9 +15,8 @@ static bool is_large(const struct map *map) {
 }
 
 static void print_comment(const struct shape *shape, const char *what) {
-  printf("# %s, doubled %" PRIu64 " times, n=%" PRIu64 ", m=%" PRIu64 ", %" PRIu64
-         " symmetries: %s\n",
-         shape->name, shape->doubled, shape->map.n, shape->map.m, shape->symmetries, what);
+  printf("# %s, doubled %" PRIu64 " times, n=%" PRIu64 ", m=%" PRIu64 ", %" PRIu64 " symmetries: %s\n", shape->name,
+         shape->doubled, shape->map.n, shape->map.m, shape->symmetries, what);
 }
 
 // Darts of one word stand in an order of chance.
@@ -96,8 +95,7 @@ static void print_marked_matches(struct chance *chance, const struct map *map) {
   struct map marked;
   struct map marked_otherwise;
   uint64_t kept;
-  if (map_marked(chance, map, &marked, &kept) &&
-      map_marked(chance, map, &marked_otherwise, &kept)) {
+  if (map_marked(chance, map, &marked, &kept) && map_marked(chance, map, &marked_otherwise, &kept)) {
     print_match_of(chance, map, &marked);
     print_match_of(chance, &marked, &marked_otherwise);
     print_match_of(chance, &marked, &marked);
@@ -146,21 +144,18 @@ static struct drawer empty_drawer(struct chance *chance) {
 // Some layouts were made in two ways, and the second one is refused with 17.
 static void file_if_new(struct chance *chance, struct drawer *drawer, const struct map *map) {
   struct map renumbered = map_shuffled(chance, map);
-  uint32_t die = unfiled_die(chance, drawer);
-  struct second_filed filed =
-      second_add(die, map_lent(&renumbered), drawer->count, drawer->bytes, drawer->length);
-  drawer->count += filed.number == 0;
+  drawer_add(drawer, unfiled_die(chance, drawer), &renumbered);
 }
 
-// A word of the same map that is not the least: mostly the next one, so that few starts are better
-// than dart 1. False where all words are equal.
+// A word of the same map that is not the least: mostly the next one, so that few starts are better than dart 1. False where all
+// words are equal.
 static bool find_greater_word(struct chance *chance, const struct map *least, struct map *greater) {
   bool any = chance_one_in(chance, 4);
   bool found = false;
   uint64_t skipped = chance_below(chance, least->m);
   struct map word = *least;
   for (uint64_t k = 0; k < least->m && !(any && found); k++) {
-    word_from(least, 1 + (skipped + k) % least->m, word.table);
+    second_word(map_lent(least), 1 + (skipped + k) % least->m, word.table);
     if (second_compare_words(word.table, least->table, least->length) > 0 &&
         (!found || second_compare_words(word.table, greater->table, least->length) < 0)) {
       *greater = word;

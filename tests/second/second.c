@@ -52,17 +52,6 @@ static struct second_verdict judge_bounds(uint64_t n, uint64_t m) {
   return accepted();
 }
 
-static struct second_verdict judge_size(struct second_map map) {
-  struct second_verdict bounds = judge_bounds(map.n, map.m);
-  if (bounds.number != 0) {
-    return bounds;
-  }
-  if (map.length != map.n * map.m) {
-    return refused(3, 0);
-  }
-  return accepted();
-}
-
 static uint16_t entry(struct second_map map, unsigned i, unsigned dart) {
   return map.table[(dart - 1) * map.n + i - 1];
 }
@@ -143,8 +132,8 @@ static void join(uint16_t *head, unsigned one, unsigned other) {
   head[other] = (uint16_t)low;
 }
 
-// Every sewing can be walked back (beta1 by beta0, the others by themselves), so the darts reached
-// from dart 1 are the darts joined with it.
+// Every sewing can be walked back (beta1 by beta0, the others by themselves), so the darts reached from dart 1 are the darts
+// joined with it.
 static unsigned dart_not_reached(const struct sewings *sewn) {
   uint16_t head[MOST_NUMBERS + 1];
   for (unsigned dart = 0; dart <= sewn->m; dart++) {
@@ -165,7 +154,8 @@ static unsigned dart_not_reached(const struct sewings *sewn) {
   return 0;
 }
 
-// Wants a map of accepted size whose entries are all at most m.
+// Wants a map of accepted size whose entries are all at most m. Beta0 means something only where no two darts clash: beta0(d)
+// is the dart that beta1 takes to d, or 0.
 static void read_sewings(struct second_map map, struct sewings *sewn) {
   memset(sewn, 0, sizeof *sewn);
   sewn->n = (unsigned)map.n;
@@ -174,24 +164,23 @@ static void read_sewings(struct second_map map, struct sewings *sewn) {
     for (unsigned i = 1; i <= sewn->n; i++) {
       sewn->beta[i][dart] = entry(map, i, dart);
     }
+    sewn->beta[0][sewn->beta[1][dart]] = (uint16_t)dart;
   }
+  sewn->beta[0][0] = 0;
 }
 
-static unsigned dart_before(const struct sewings *sewn, unsigned dart) {
-  for (unsigned before = 1; before <= sewn->m; before++) {
-    if (sewn->beta[1][before] == dart) {
-      return before;
-    }
-  }
-  return 0;
-}
+// The rules of 6 to 9 in their order.
+struct rule {
+  unsigned number;
+  unsigned (*broken_at)(const struct sewings *sewn);
+};
 
-// beta0 means something only once no two darts clash.
-static void read_beta0(struct sewings *sewn) {
-  for (unsigned dart = 1; dart <= sewn->m; dart++) {
-    sewn->beta[0][dart] = (uint16_t)dart_before(sewn, dart);
-  }
-}
+static const struct rule rules[] = {
+    {6, dart_with_clash},
+    {7, dart_not_answered},
+    {8, dart_with_bad_composition},
+    {9, dart_not_reached},
+};
 
 // Judges 5 to 9 of a map of accepted size; the sewings are whole where it is accepted.
 static struct second_verdict judge_sewings(struct second_map map, struct sewings *sewn) {
@@ -200,40 +189,33 @@ static struct second_verdict judge_sewings(struct second_map map, struct sewings
     return refused(5, dart);
   }
   read_sewings(map, sewn);
-  dart = dart_with_clash(sewn);
-  if (dart != 0) {
-    return refused(6, dart);
+  for (size_t at = 0; at < sizeof rules / sizeof rules[0]; at++) {
+    dart = rules[at].broken_at(sewn);
+    if (dart != 0) {
+      return refused(rules[at].number, dart);
+    }
   }
-  dart = dart_not_answered(sewn);
-  if (dart != 0) {
-    return refused(7, dart);
-  }
-  dart = dart_with_bad_composition(sewn);
-  if (dart != 0) {
-    return refused(8, dart);
-  }
-  dart = dart_not_reached(sewn);
-  if (dart != 0) {
-    return refused(9, dart);
-  }
-  read_beta0(sewn);
   return accepted();
 }
 
-// The whole judgement of a map that no output goes with.
-static struct second_verdict judge_map(struct second_map map, struct sewings *sewn) {
-  struct second_verdict size = judge_size(map);
-  if (size.number != 0) {
-    return size;
+// Judges 1 to 9 of a map with a lent output, of which so many numbers are needed.
+static struct second_verdict judge_for_output(struct second_map map, uint64_t needed, size_t out_length, struct sewings *sewn) {
+  struct second_verdict bounds = judge_bounds(map.n, map.m);
+  if (bounds.number != 0) {
+    return bounds;
+  }
+  if (map.length != map.n * map.m) {
+    return refused(3, 0);
+  }
+  if (out_length < needed) {
+    return refused(4, 0);
   }
   return judge_sewings(map, sewn);
 }
 
-static struct second_verdict as_second_map(struct second_verdict verdict) {
-  if (verdict.number == 0) {
-    return verdict;
-  }
-  return refused(verdict.number + 20, verdict.place);
+// The whole judgement of a map that no output goes with.
+static struct second_verdict judge_map(struct second_map map, struct sewings *sewn) {
+  return judge_for_output(map, 0, 0, sewn);
 }
 
 struct second_verdict second_check(struct second_map map) {
@@ -243,24 +225,19 @@ struct second_verdict second_check(struct second_map map) {
 
 // ---- Labels, words, signature ----
 
-// A dart calls another when the other is one of its betas. Labels are given in the order of calls:
-// first by the label of the calling dart, then by the sewing it calls along. Both in one number.
-static unsigned call_number(const struct sewings *sewn, unsigned label, unsigned i) {
-  return label * (sewn->n + 1) + i;
-}
-
-// Beta0 and beta1 undo each other, every other sewing undoes itself.
-static unsigned undoing(unsigned i) {
-  return i < 2 ? 1 - i : i;
-}
-
-// Looks back from a dart to its labelled neighbours for the first of them to call it.
+// A dart calls another when the other is one of its betas. Labels are given in the order of calls: first by the label of the
+// calling dart, then by the sewing it calls along; both are put in one number. This looks back from a dart to its labelled
+// neighbours for the first of them to call it.
 static unsigned least_call(const struct sewings *sewn, const uint16_t *labels, unsigned dart) {
   unsigned least = NOT_CALLED;
   for (unsigned i = 0; i <= sewn->n; i++) {
-    unsigned caller_label = labels[sewn->beta[undoing(i)][dart]];
-    unsigned call = caller_label == 0 ? NOT_CALLED : call_number(sewn, caller_label, i);
-    least = call < least ? call : least;
+    // Beta0 and beta1 undo each other, every other sewing undoes itself.
+    unsigned undoing = i < 2 ? 1 - i : i;
+    unsigned caller_label = labels[sewn->beta[undoing][dart]];
+    unsigned call = caller_label * (sewn->n + 1) + i;
+    if (caller_label != 0 && call < least) {
+      least = call;
+    }
   }
   return least;
 }
@@ -272,8 +249,7 @@ struct layer {
 };
 
 // Gathers the neighbours of a layer not met before, each once, in no order that matters.
-static void gather(const struct sewings *sewn, const struct layer *layer, bool *met,
-                   struct layer *next) {
+static void gather(const struct sewings *sewn, const struct layer *layer, bool *met, struct layer *next) {
   next->length = 0;
   for (unsigned k = 0; k < layer->length; k++) {
     for (unsigned i = 0; i <= sewn->n; i++) {
@@ -372,28 +348,13 @@ static void sign(const struct sewings *sewn, struct signature *signature) {
 void second_labels(struct second_map map, uint64_t start, uint16_t *labels) {
   struct sewings sewn;
   read_sewings(map, &sewn);
-  read_beta0(&sewn);
   label_from(&sewn, (unsigned)start, labels);
 }
 
 void second_word(struct second_map map, uint64_t start, uint16_t *word) {
   struct sewings sewn;
   read_sewings(map, &sewn);
-  read_beta0(&sewn);
   word_from(&sewn, (unsigned)start, word);
-}
-
-// Judges 4 in its place between 3 and 5.
-static struct second_verdict judge_for_output(struct second_map map, uint64_t needed,
-                                              size_t out_length, struct sewings *sewn) {
-  struct second_verdict size = judge_size(map);
-  if (size.number != 0) {
-    return size;
-  }
-  if (out_length < needed) {
-    return refused(4, 0);
-  }
-  return judge_sewings(map, sewn);
 }
 
 struct second_signed second_sign(struct second_map map, uint16_t *out, size_t out_length) {
@@ -428,8 +389,7 @@ static unsigned sent_to(const uint16_t *list, unsigned dart) {
   return dart == 0 ? 0 : list[dart - 1];
 }
 
-static unsigned dart_not_matched(const struct sewings *first, const struct sewings *second,
-                                 const uint16_t *list) {
+static unsigned dart_not_matched(const struct sewings *first, const struct sewings *second, const uint16_t *list) {
   for (unsigned dart = 1; dart <= first->m; dart++) {
     for (unsigned i = 1; i <= first->n; i++) {
       if (sent_to(list, first->beta[i][dart]) != second->beta[i][sent_to(list, dart)]) {
@@ -441,8 +401,7 @@ static unsigned dart_not_matched(const struct sewings *first, const struct sewin
 }
 
 // Judges 11 and 12 of a list of m numbers.
-static struct second_verdict judge_list(const struct sewings *first, const struct sewings *second,
-                                        const uint16_t *list) {
+static struct second_verdict judge_list(const struct sewings *first, const struct sewings *second, const uint16_t *list) {
   unsigned dart = dart_sent_badly(list, first->m);
   if (dart != 0) {
     return refused(11, dart);
@@ -454,10 +413,9 @@ static struct second_verdict judge_list(const struct sewings *first, const struc
   return accepted();
 }
 
-// Sends dart 1 to `image` and every other dart where the sewings then force it to go. A dart whose
-// place is sewn to nothing stays at 0, which no judged list allows.
-static void force_list(const struct sewings *first, const struct sewings *second, unsigned image,
-                       uint16_t *list) {
+// Sends dart 1 to `image` and every other dart where the sewings then force it to go. A dart whose place is sewn to nothing
+// stays at 0, which no judged list allows.
+static void force_list(const struct sewings *first, const struct sewings *second, unsigned image, uint16_t *list) {
   uint16_t waiting[MOST_NUMBERS];
   unsigned waiting_length = 1;
   memset(list, 0, first->m * sizeof list[0]);
@@ -476,25 +434,28 @@ static void force_list(const struct sewings *first, const struct sewings *second
   }
 }
 
-static bool same_size(const struct sewings *first, const struct sewings *second) {
-  return first->n == second->n && first->m == second->m;
+// Judges the first map with an output of which so many numbers are needed, then the second, then 10 by their sizes.
+static struct second_verdict judge_pair(struct second_map first, struct second_map second, uint64_t needed, size_t out_length,
+                                        struct sewings *first_sewn, struct sewings *second_sewn) {
+  struct second_verdict verdict = judge_for_output(first, needed, out_length, first_sewn);
+  if (verdict.number != 0) {
+    return verdict;
+  }
+  verdict = judge_map(second, second_sewn);
+  if (verdict.number != 0) {
+    return refused(verdict.number + 20, verdict.place);
+  }
+  bool same_size = first.n == second.n && first.m == second.m;
+  return same_size ? accepted() : refused(10, 0);
 }
 
-struct second_verdict second_match(struct second_map first, struct second_map second, uint16_t *out,
-                                   size_t out_length) {
+struct second_verdict second_match(struct second_map first, struct second_map second, uint16_t *out, size_t out_length) {
   struct sewings first_sewn;
   struct sewings second_sewn;
   uint16_t list[MOST_NUMBERS];
-  struct second_verdict verdict = judge_for_output(first, first.m, out_length, &first_sewn);
+  struct second_verdict verdict = judge_pair(first, second, first.m, out_length, &first_sewn, &second_sewn);
   if (verdict.number != 0) {
     return verdict;
-  }
-  verdict = as_second_map(judge_map(second, &second_sewn));
-  if (verdict.number != 0) {
-    return verdict;
-  }
-  if (!same_size(&first_sewn, &second_sewn)) {
-    return refused(10, 0);
   }
   for (unsigned image = 1; image <= second_sewn.m; image++) {
     force_list(&first_sewn, &second_sewn, image, list);
@@ -506,20 +467,13 @@ struct second_verdict second_match(struct second_map first, struct second_map se
   return refused(10, 0);
 }
 
-struct second_verdict second_judge(struct second_map first, struct second_map second,
-                                   const uint16_t *list, size_t list_length) {
+struct second_verdict second_judge(struct second_map first, struct second_map second, const uint16_t *list,
+                                   size_t list_length) {
   struct sewings first_sewn;
   struct sewings second_sewn;
-  struct second_verdict verdict = judge_map(first, &first_sewn);
+  struct second_verdict verdict = judge_pair(first, second, 0, 0, &first_sewn, &second_sewn);
   if (verdict.number != 0) {
     return verdict;
-  }
-  verdict = as_second_map(judge_map(second, &second_sewn));
-  if (verdict.number != 0) {
-    return verdict;
-  }
-  if (!same_size(&first_sewn, &second_sewn)) {
-    return refused(10, 0);
   }
   if (list_length != first_sewn.m) {
     return refused(11, 0);
@@ -584,10 +538,7 @@ static bool record_alone_is_good(const uint8_t *record) {
   uint16_t table[MOST_NUMBERS];
   struct sewings sewn;
   struct signature signature;
-  if (judge_bounds(record_n(record), record_m(record)).number != 0) {
-    return false;
-  }
-  if (!record_frame_is_good(record)) {
+  if (judge_bounds(record_n(record), record_m(record)).number != 0 || !record_frame_is_good(record)) {
     return false;
   }
   struct second_map map = record_map(record, table);
@@ -608,8 +559,7 @@ static bool same_layout(const uint8_t *one, const uint8_t *other) {
   return memcmp(one + WORD_AT, other + WORD_AT, 2 * n * m) == 0;
 }
 
-static void write_record(uint8_t *record, uint32_t die, const struct sewings *sewn,
-                         const struct signature *signature) {
+static void write_record(uint8_t *record, uint32_t die, const struct sewings *sewn, const struct signature *signature) {
   memset(record, 0, RECORD_BYTES);
   write_little(record, 4, die);
   write_little(record + 4, 1, sewn->n);
@@ -651,8 +601,7 @@ static bool record_is_bad(const uint8_t *drawer, uint64_t record) {
   if (!record_alone_is_good(bytes)) {
     return true;
   }
-  return record_with_die(drawer, record - 1, record_die(bytes)) != 0 ||
-         record_with_layout(drawer, record - 1, bytes) != 0;
+  return record_with_die(drawer, record - 1, record_die(bytes)) != 0 || record_with_layout(drawer, record - 1, bytes) != 0;
 }
 
 struct second_verdict second_drawer(uint64_t count, const uint8_t *drawer, size_t drawer_length) {
@@ -669,9 +618,8 @@ struct second_verdict second_drawer(uint64_t count, const uint8_t *drawer, size_
 }
 
 // Judges the map, then the drawer, and makes the record that filing the map would write.
-static struct second_verdict judge_and_make(struct second_map map, uint32_t die, uint64_t count,
-                                            const uint8_t *drawer, size_t drawer_length,
-                                            uint8_t made[RECORD_BYTES]) {
+static struct second_verdict judge_and_make(struct second_map map, uint32_t die, uint64_t count, const uint8_t *drawer,
+                                            size_t drawer_length, uint8_t made[RECORD_BYTES]) {
   struct sewings sewn;
   struct signature signature;
   struct second_verdict verdict = judge_map(map, &sewn);
@@ -687,8 +635,7 @@ static struct second_verdict judge_and_make(struct second_map map, uint32_t die,
   return accepted();
 }
 
-struct second_found second_find(struct second_map map, uint64_t count, const uint8_t *drawer,
-                                size_t drawer_length) {
+struct second_found second_find(struct second_map map, uint64_t count, const uint8_t *drawer, size_t drawer_length) {
   uint8_t wanted[RECORD_BYTES];
   struct second_verdict verdict = judge_and_make(map, 0, count, drawer, drawer_length, wanted);
   if (verdict.number != 0) {
@@ -701,8 +648,7 @@ struct second_found second_find(struct second_map map, uint64_t count, const uin
   return (struct second_found){0, 0, record_die(record_at(drawer, record)), record};
 }
 
-struct second_part second_record(struct second_map map, uint64_t count, const uint8_t *drawer,
-                                 size_t drawer_length) {
+struct second_part second_record(struct second_map map, uint64_t count, const uint8_t *drawer, size_t drawer_length) {
   struct second_found found = second_find(map, count, drawer, drawer_length);
   if (found.number != 0) {
     return (struct second_part){NULL, 0};
@@ -711,8 +657,8 @@ struct second_part second_record(struct second_map map, uint64_t count, const ui
 }
 
 // Judges 16, 17 and 18 of a record made for a good drawer.
-static struct second_verdict judge_filing(uint32_t die, const uint8_t *made, uint64_t count,
-                                          const uint8_t *drawer, size_t drawer_length) {
+static struct second_verdict judge_filing(uint32_t die, const uint8_t *made, uint64_t count, const uint8_t *drawer,
+                                          size_t drawer_length) {
   if (die == 0) {
     return refused(16, 0);
   }
@@ -730,8 +676,7 @@ static struct second_verdict judge_filing(uint32_t die, const uint8_t *made, uin
   return accepted();
 }
 
-struct second_filed second_add(uint32_t die, struct second_map map, uint64_t count, uint8_t *drawer,
-                               size_t drawer_length) {
+struct second_filed second_add(uint32_t die, struct second_map map, uint64_t count, uint8_t *drawer, size_t drawer_length) {
   uint8_t made[RECORD_BYTES];
   struct second_verdict verdict = judge_and_make(map, die, count, drawer, drawer_length, made);
   if (verdict.number == 0) {
@@ -746,24 +691,18 @@ struct second_filed second_add(uint32_t die, struct second_map map, uint64_t cou
 
 // ---- The layout lister ----
 
-// Judges 1 and 2, then 14, then 5 to 9; the sewings are whole where it is accepted.
-static struct second_verdict judge_listed(const uint8_t *record, uint64_t place,
-                                          struct sewings *sewn) {
-  uint16_t table[MOST_NUMBERS];
-  struct second_verdict bounds = judge_bounds(record_n(record), record_m(record));
-  if (bounds.number != 0) {
-    return bounds;
-  }
-  if (!record_frame_is_good(record)) {
-    return refused(14, place);
-  }
-  return judge_sewings(record_map(record, table), sewn);
-}
-
+// Judges 1 and 2, then 14, then 5 to 9.
 static void list_record(const uint8_t *record, uint64_t place, FILE *out) {
+  uint16_t table[MOST_NUMBERS];
   struct sewings sewn;
   struct signature signature;
-  struct second_verdict verdict = judge_listed(record, place, &sewn);
+  struct second_verdict verdict = judge_bounds(record_n(record), record_m(record));
+  if (verdict.number == 0 && !record_frame_is_good(record)) {
+    verdict = refused(14, place);
+  }
+  if (verdict.number == 0) {
+    verdict = judge_sewings(record_map(record, table), &sewn);
+  }
   fprintf(out, "%" PRIu32 " ", record_die(record));
   if (verdict.number != 0) {
     fprintf(out, "refused %u %" PRIu64 "\n", verdict.number, verdict.place);

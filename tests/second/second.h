@@ -48,17 +48,12 @@ struct second_part {
 
 struct second_verdict second_check(struct second_map map);
 struct second_signed second_sign(struct second_map map, uint16_t *out, size_t out_length);
-struct second_verdict second_match(struct second_map first, struct second_map second, uint16_t *out,
-                                   size_t out_length);
-struct second_verdict second_judge(struct second_map first, struct second_map second,
-                                   const uint16_t *list, size_t list_length);
+struct second_verdict second_match(struct second_map first, struct second_map second, uint16_t *out, size_t out_length);
+struct second_verdict second_judge(struct second_map first, struct second_map second, const uint16_t *list, size_t list_length);
 struct second_verdict second_drawer(uint64_t count, const uint8_t *drawer, size_t drawer_length);
-struct second_found second_find(struct second_map map, uint64_t count, const uint8_t *drawer,
-                                size_t drawer_length);
-struct second_part second_record(struct second_map map, uint64_t count, const uint8_t *drawer,
-                                 size_t drawer_length);
-struct second_filed second_add(uint32_t die, struct second_map map, uint64_t count, uint8_t *drawer,
-                               size_t drawer_length);
+struct second_found second_find(struct second_map map, uint64_t count, const uint8_t *drawer, size_t drawer_length);
+struct second_part second_record(struct second_map map, uint64_t count, const uint8_t *drawer, size_t drawer_length);
+struct second_filed second_add(uint32_t die, struct second_map map, uint64_t count, uint8_t *drawer, size_t drawer_length);
 
 // The layout lister: records from `in`, lines to `out`.
 void second_list(FILE *in, FILE *out);

@@ -1,5 +1,4 @@
-// What second.c works out inside and others want to see: labels and words from one start, and which
-// word is less.
+// What second.c works out inside and others want to see: labels and words from one start, and which word is less.
 #ifndef SECOND_INSIDE_H
 #define SECOND_INSIDE_H
 

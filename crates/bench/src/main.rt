@@ -8,77 +8,36 @@ mod read;
 
 use libc::STDIN_FILENO;
 use libc::STDOUT_FILENO;
-use maps::Judged;
-use read::Cursor;
-use read::Map;
-use read::Numbers;
-use read::Step;
 use words::Signed;
 
 fn copy(line: &[u8]) {
     io::write_all(STDOUT_FILENO, line);
-    io::write_all(STDOUT_FILENO, b"\n");
+    print::newline();
 }
 
 // `check N M TABLE`, and nothing after it.
 fn answer_check(line: &[u8]) {
-    let Step::To(word) = Cursor::start().word(line, b"check") else {
-        return print::refuse();
-    };
     // A table may have more numbers than the 1,020 of the longest map, and is then judged all the same.
     let mut table = [0u16; 2048];
-    let Map::Read { n, m, length, next } = word.map(line, &mut table) else {
-        return print::refuse();
-    };
-    if next.at != line.len() {
+    let map = read::map(line, read::word(line, b"check"), &mut table);
+    if map.next != line.len() {
         return print::refuse();
     }
-    print::judged_line(labels::check(n, m, &table[0..length]));
+    let length = map.length;
+    print::judged_line(labels::check(map.n, map.m, &table[0..length]));
 }
 
 // A refusal has no start and no symmetries, and 0 is printed for each.
-fn start_of(signed: Signed) -> u64 {
-    match signed {
-        Signed::Word {
-            start,
-            symmetries: _,
-        } => start as u64,
-        Signed::Refused {
-            number: _,
-            place: _,
-        } => 0,
-    }
-}
-
-fn symmetries_of(signed: Signed) -> u64 {
-    match signed {
-        Signed::Word {
-            start: _,
-            symmetries,
-        } => symmetries as u64,
-        Signed::Refused {
-            number: _,
-            place: _,
-        } => 0,
-    }
-}
-
-fn judged_of(signed: Signed) -> Judged {
-    match signed {
-        Signed::Word {
-            start: _,
-            symmetries: _,
-        } => Judged::Passed,
-        Signed::Refused { number, place } => Judged::Refused { number, place },
-    }
-}
-
 fn print_signed(signed: Signed, output: &[u16]) {
-    let mut out = [0u8; 4096];
-    let judged = print::judged_start(&mut out, judged_of(signed));
-    let start = print::spaced(&mut out, judged, start_of(signed));
-    let symmetries = print::spaced(&mut out, start, symmetries_of(signed));
-    print::last_list(&mut out, symmetries, output);
+    match signed {
+        Signed::Word { start, symmetries } => {
+            print::four(0, 0, start as u64, symmetries as u64);
+        }
+        Signed::Refused { number, place } => {
+            print::four(number as u64, place as u64, 0, 0);
+        }
+    }
+    print::last_list(output);
 }
 
 fn sign(n: usize, m: usize, table: &[u16], output: &mut [u16]) {
@@ -88,25 +47,16 @@ fn sign(n: usize, m: usize, table: &[u16], output: &mut [u16]) {
 
 // `sign N M TABLE OUTPUT`, and nothing after it.
 fn answer_sign(line: &[u8]) {
-    let Step::To(word) = Cursor::start().word(line, b"sign") else {
-        return print::refuse();
-    };
     let mut table = [0u16; 2048];
-    let Map::Read { n, m, length, next } = word.map(line, &mut table) else {
-        return print::refuse();
-    };
     let mut output = [0u16; 2048];
-    let Numbers::Read {
-        length: room,
-        next: end,
-    } = next.list(line, &mut output)
-    else {
-        return print::refuse();
-    };
-    if end.at != line.len() {
+    let map = read::map(line, read::word(line, b"sign"), &mut table);
+    let last = read::list(line, map.next, &mut output);
+    if last.next != line.len() {
         return print::refuse();
     }
-    sign(n, m, &table[0..length], &mut output[0..room]);
+    let length = map.length;
+    let room = last.value;
+    sign(map.n, map.m, &table[0..length], &mut output[0..room]);
 }
 
 // The call is told by its first letter, and its word is read by what answers it.

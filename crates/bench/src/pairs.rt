@@ -1,144 +1,66 @@
 // The cases of two maps, `match` and `judge`.
-ghost use lib.ListN.{length as size};
-ghost use Rattle.bench.specs.Fits.{PairFits};
 use crate::print;
-use crate::read::Cursor;
-use crate::read::Map;
-use crate::read::Numbers;
-use crate::read::Step;
-use maps::Judged;
+use crate::read;
 
-// The two maps' numbers, their tables' lengths and the list's. The tables and the list are in the slices that were lent.
-pub enum Pair {
-    Read {
-        n: usize,
-        m: usize,
-        length: usize,
-        n2: usize,
-        m2: usize,
-        length2: usize,
-        count: usize,
-    },
-    Wrong,
+// What is asked of two maps: to match them, with the list as the output, or to judge the list.
+pub enum Asked {
+    Match,
+    Judge,
 }
 
-// A word, two maps and a list, and nothing after it.
-fn read_pair(
-    line: &[u8],
-    word: &[u8],
-    table: &mut [u16],
-    table2: &mut [u16],
-    list: &mut [u16],
-) -> Pair
-    ensures { λ r. ⌜ PairFits (size (now (table .entry))) (size (now (table2 .entry))) (size (now (list .entry))) r ⌝ }
-{
-    let Step::To(start) = Cursor::start().word(line, word) else {
-        return Pair::Wrong;
-    };
-    let Map::Read { n, m, length, next } = start.map(line, table) else {
-        return Pair::Wrong;
-    };
-    let Map::Read {
-        n: n2,
-        m: m2,
-        length: length2,
-        next: after,
-    } = next.map(line, table2)
-    else {
-        return Pair::Wrong;
-    };
-    let Numbers::Read {
-        length: count,
-        next: end,
-    } = after.list(line, list)
-    else {
-        return Pair::Wrong;
-    };
-    if end.at != line.len() {
-        return Pair::Wrong;
-    }
-    Pair::Read {
-        n,
-        m,
-        length,
-        n2,
-        m2,
-        length2,
-        count,
-    }
-}
-
-fn print_matched(judged: Judged, output: &[u16]) {
-    let mut out = [0u8; 4096];
-    let end = print::judged_start(&mut out, judged);
-    print::last_list(&mut out, end, output);
-}
-
-fn match_pair(
+fn ask(
+    asked: Asked,
     n: usize,
     m: usize,
     table: &[u16],
     n2: usize,
     m2: usize,
     table2: &[u16],
-    output: &mut [u16],
+    list: &mut [u16],
 ) {
-    let judged = words::match_maps(n, m, table, n2, m2, table2, output);
-    print_matched(judged, output);
+    match asked {
+        Asked::Match => {
+            print::judged_start(words::match_maps(n, m, table, n2, m2, table2, list));
+            print::last_list(list);
+        }
+        Asked::Judge => {
+            print::judged_line(matches::judge_list(n, m, table, n2, m2, table2, list));
+        }
+    }
+}
+
+// Two maps and a list, and nothing after it.
+fn answer(line: &[u8], at: usize, asked: Asked) {
+    let mut table = [0u16; 2048];
+    let mut table2 = [0u16; 2048];
+    let mut list = [0u16; 2048];
+    let one = read::map(line, at, &mut table);
+    let two = read::map(line, one.next, &mut table2);
+    let last = read::list(line, two.next, &mut list);
+    if last.next != line.len() {
+        return print::refuse();
+    }
+    let length = one.length;
+    let length2 = two.length;
+    let count = last.value;
+    ask(
+        asked,
+        one.n,
+        one.m,
+        &table[0..length],
+        two.n,
+        two.m,
+        &table2[0..length2],
+        &mut list[0..count],
+    );
 }
 
 // `match N M TABLE N2 M2 TABLE2 OUTPUT`.
 pub(crate) fn answer_match(line: &[u8]) {
-    let mut table = [0u16; 2048];
-    let mut table2 = [0u16; 2048];
-    let mut output = [0u16; 2048];
-    let Pair::Read {
-        n,
-        m,
-        length,
-        n2,
-        m2,
-        length2,
-        count,
-    } = read_pair(line, b"match", &mut table, &mut table2, &mut output)
-    else {
-        return print::refuse();
-    };
-    match_pair(
-        n,
-        m,
-        &table[0..length],
-        n2,
-        m2,
-        &table2[0..length2],
-        &mut output[0..count],
-    );
+    answer(line, read::word(line, b"match"), Asked::Match);
 }
 
 // `judge N M TABLE N2 M2 TABLE2 LIST`.
 pub(crate) fn answer_judge(line: &[u8]) {
-    let mut table = [0u16; 2048];
-    let mut table2 = [0u16; 2048];
-    let mut list = [0u16; 2048];
-    let Pair::Read {
-        n,
-        m,
-        length,
-        n2,
-        m2,
-        length2,
-        count,
-    } = read_pair(line, b"judge", &mut table, &mut table2, &mut list)
-    else {
-        return print::refuse();
-    };
-    print::judged_line(matches::judge_list(
-        n,
-        m,
-        &table[0..length],
-        n2,
-        m2,
-        &table2[0..length2],
-        &list[0..count],
-    ));
+    answer(line, read::word(line, b"judge"), Asked::Judge);
 }

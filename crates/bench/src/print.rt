@@ -1,7 +1,5 @@
-// The lines that are printed. Their numbers are gathered as text in a buffer that is written out where it is full and at the end
-// of a line.
-ghost use Prim.Native.Nat.{_≤_, _<_};
-ghost use lib.ListN.{length};
+// The lines that are printed. A number is written as soon as it is there.
+ghost use Prim.Native.Nat.{_≤_, _<_, _+_};
 use libc::STDOUT_FILENO;
 use maps::Judged;
 
@@ -10,212 +8,134 @@ pub(crate) fn refuse() {
     io::write_all(STDOUT_FILENO, b"?\n");
 }
 
-fn flush(out: &[u8], at: usize)
-    requires { ⌜ at ≤ length (now out) ⌝ }
-{
-    io::write_all(STDOUT_FILENO, &out[0..at]);
+pub(crate) fn newline() {
+    io::write_all(STDOUT_FILENO, b"\n");
 }
 
-// Puts a byte at `at`, and answers where the next one goes.
-fn byte(out: &mut [u8; 4096], at: usize, b: u8) -> usize
-    requires { ⌜ at ≤ 4096 ⌝ }
-    ensures { λ r. ⌜ r ≤ 4096 ⌝ }
-{
-    if at == 4096 {
-        flush(out, at);
-        out[0] = b;
-        return 1;
-    }
-    out[at] = b;
-    at + 1
+fn decimal(n: u64) {
+    io::print_decimal(STDOUT_FILENO, n);
 }
 
-fn bytes(out: &mut [u8; 4096], at: usize, text: &[u8]) -> usize
-    requires { ⌜ at ≤ 4096 ⌝ }
-    ensures { λ r. ⌜ r ≤ 4096 ⌝ }
-{
-    let mut to = at;
+// A space and a number.
+fn spaced(n: u64) {
+    io::write_all(STDOUT_FILENO, b" ");
+    decimal(n);
+}
+
+// A number that stands fewer than four times in a row, one by one.
+fn repeated(n: u64, times: usize) {
     let mut i = 0;
-    while i < text.len() {
-        to = byte(out, to, text[i]);
+    while i < times {
+        spaced(n);
         i += 1;
     }
-    to
 }
 
-fn decimal(out: &mut [u8; 4096], at: usize, n: u64) -> usize
-    requires { ⌜ at ≤ 4096 ⌝ }
-    ensures { λ r. ⌜ r ≤ 4096 ⌝ }
-{
-    let mut digits = [0u8; 20];
-    let count = io::decimal(n, &mut digits);
-    bytes(out, at, &digits[..count])
+// A number and how often it stands in a row: `V*K` from four times on.
+fn run(n: u64, times: usize) {
+    if times < 4 {
+        return repeated(n, times);
+    }
+    spaced(n);
+    io::write_all(STDOUT_FILENO, b"*");
+    decimal(times as u64);
 }
 
-// Ends the line, and writes out what is left of it.
-pub(crate) fn newline(out: &mut [u8; 4096], at: usize)
-    requires { ⌜ at ≤ 4096 ⌝ }
+// The run that is under way in a list. It may go on, and is not printed yet.
+pub struct Begun {
+    pub value: u64,
+    pub times: usize,
+}
+
+// The next number of a list goes on with the run, or ends it.
+fn step(begun: Begun, value: u64) -> Begun
+    requires { ⌜ begun .times < 18446744073709551615 ⌝ }
+    ensures { λ r. ⌜ r .times ≤ begun .times + 1 ⌝ }
 {
-    let end = byte(out, at, b'\n');
-    flush(out, end);
+    if value == begun.value {
+        return Begun {
+            value,
+            times: begun.times + 1,
+        };
+    }
+    run(begun.value, begun.times);
+    Begun { value, times: 1 }
 }
 
 fn wide(x: u16) -> u64 {
     x as u64
 }
 
-// A space and a number.
-pub(crate) fn spaced(out: &mut [u8; 4096], at: usize, n: u64) -> usize
-    requires { ⌜ at ≤ 4096 ⌝ }
-    ensures { λ r. ⌜ r ≤ 4096 ⌝ }
-{
-    let to = byte(out, at, b' ');
-    decimal(out, to, n)
-}
-
-// Where the run of equal numbers from `from` on ends.
-fn run_end(numbers: &[u16], from: usize) -> usize
-    requires { ⌜ from < length (now numbers) ⌝ }
-    ensures { λ r. ⌜ (from < r) × (r ≤ length (now (numbers .entry))) ⌝ }
-{
-    let value = numbers[from];
-    let mut end = from + 1;
-    while end < numbers.len() {
-        if numbers[end] != value {
-            return end;
-        }
-        end += 1;
-    }
-    end
-}
-
-// A number that stands fewer than four times in a row, one by one.
-fn repeated(out: &mut [u8; 4096], at: usize, n: u64, times: usize) -> usize
-    requires { ⌜ at ≤ 4096 ⌝ }
-    ensures { λ r. ⌜ r ≤ 4096 ⌝ }
-{
-    let mut to = at;
+fn numbers(list: &[u16]) {
+    let mut begun = Begun { value: 0, times: 0 };
     let mut i = 0;
-    while i < times {
-        to = spaced(out, to, n);
+    while i < list.len() {
+        begun = step(begun, wide(list[i]));
         i += 1;
     }
-    to
+    run(begun.value, begun.times);
 }
 
-// A number and how often it stands in a row: `V*K` from four times on.
-fn run(out: &mut [u8; 4096], at: usize, n: u64, times: usize) -> usize
-    requires { ⌜ at ≤ 4096 ⌝ }
-    ensures { λ r. ⌜ r ≤ 4096 ⌝ }
-{
-    if times < 4 {
-        return repeated(out, at, n, times);
-    }
-    let value = spaced(out, at, n);
-    let star = byte(out, value, b'*');
-    decimal(out, star, times as u64)
-}
-
-// A list: its length and its numbers, by runs.
-fn list(out: &mut [u8; 4096], at: usize, numbers: &[u16]) -> usize
-    requires { ⌜ at ≤ 4096 ⌝ }
-    ensures { λ r. ⌜ r ≤ 4096 ⌝ }
-{
-    let mut to = decimal(out, at, numbers.len() as u64);
-    let mut from = 0;
-    while from < numbers.len() {
-        let end = run_end(numbers, from);
-        to = run(out, to, wide(numbers[from]), end - from);
-        from = end;
-    }
-    to
-}
-
-// A space, a list, and the line's end.
-pub(crate) fn last_list(out: &mut [u8; 4096], at: usize, numbers: &[u16])
-    requires { ⌜ at ≤ 4096 ⌝ }
-{
-    let space = byte(out, at, b' ');
-    let end = list(out, space, numbers);
-    newline(out, end);
+// A space, a list, which is its length and its numbers by runs, and the line's end.
+pub(crate) fn last_list(list: &[u16]) {
+    spaced(list.len() as u64);
+    numbers(list);
+    newline();
 }
 
 fn wide_byte(x: u8) -> u64 {
     x as u64
 }
 
-// Where the run of equal bytes from `from` on ends.
-fn byte_run_end(numbers: &[u8], from: usize) -> usize
-    requires { ⌜ from < length (now numbers) ⌝ }
-    ensures { λ r. ⌜ (from < r) × (r ≤ length (now (numbers .entry))) ⌝ }
-{
-    let value = numbers[from];
-    let mut end = from + 1;
-    while end < numbers.len() {
-        if numbers[end] != value {
-            return end;
-        }
-        end += 1;
+fn bytes(list: &[u8]) {
+    let mut begun = Begun { value: 0, times: 0 };
+    let mut i = 0;
+    while i < list.len() {
+        begun = step(begun, wide_byte(list[i]));
+        i += 1;
     }
-    end
+    run(begun.value, begun.times);
 }
 
-// A list of bytes, as the numbers that they are.
-fn byte_list(out: &mut [u8; 4096], at: usize, numbers: &[u8]) -> usize
-    requires { ⌜ at ≤ 4096 ⌝ }
-    ensures { λ r. ⌜ r ≤ 4096 ⌝ }
-{
-    let mut to = decimal(out, at, numbers.len() as u64);
-    let mut from = 0;
-    while from < numbers.len() {
-        let end = byte_run_end(numbers, from);
-        to = run(out, to, wide_byte(numbers[from]), end - from);
-        from = end;
-    }
-    to
-}
-
-// A space, a list of bytes, and the line's end.
-pub(crate) fn last_bytes(out: &mut [u8; 4096], at: usize, numbers: &[u8])
-    requires { ⌜ at ≤ 4096 ⌝ }
-{
-    let space = byte(out, at, b' ');
-    let end = byte_list(out, space, numbers);
-    newline(out, end);
+// A space, a list of bytes, as the numbers that they are, and the line's end.
+pub(crate) fn last_bytes(list: &[u8]) {
+    spaced(list.len() as u64);
+    bytes(list);
+    newline();
 }
 
 // A line that has no more than a list of bytes.
-pub(crate) fn bytes_line(numbers: &[u8]) {
-    let mut out = [0u8; 4096];
-    let end = byte_list(&mut out, 0, numbers);
-    newline(&mut out, end);
+pub(crate) fn bytes_line(list: &[u8]) {
+    decimal(list.len() as u64);
+    bytes(list);
+    newline();
 }
 
-fn number_of(judged: Judged) -> u64 {
+// The number and the place of a refusal, or 0 and 0.
+fn two(number: u64, place: u64) {
+    decimal(number);
+    spaced(place);
+}
+
+pub(crate) fn three(number: u64, place: u64, third: u64) {
+    two(number, place);
+    spaced(third);
+}
+
+pub(crate) fn four(number: u64, place: u64, third: u64, fourth: u64) {
+    three(number, place, third);
+    spaced(fourth);
+}
+
+pub(crate) fn judged_start(judged: Judged) {
     match judged {
-        Judged::Passed => 0,
-        Judged::Refused { number, place: _ } => number as u64,
+        Judged::Passed => two(0, 0),
+        Judged::Refused { number, place } => two(number as u64, place as u64),
     }
-}
-
-fn place_of(judged: Judged) -> u64 {
-    match judged {
-        Judged::Passed => 0,
-        Judged::Refused { number: _, place } => place as u64,
-    }
-}
-
-// The number and the place, from the start of the buffer. Answers where the next byte goes.
-pub(crate) fn judged_start(out: &mut [u8; 4096], judged: Judged) -> usize
-    ensures { λ r. ⌜ r ≤ 4096 ⌝ }
-{
-    let number = decimal(out, 0, number_of(judged));
-    spaced(out, number, place_of(judged))
 }
 
 // A line that has no more than the number and the place.
 pub(crate) fn judged_line(judged: Judged) {
-    let mut out = [0u8; 4096];
-    let end = judged_start(&mut out, judged);
-    newline(&mut out, end);
+    judged_start(judged);
+    newline();
 }

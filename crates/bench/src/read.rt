@@ -1,49 +1,31 @@
-// The parts of a case, read out of its line from left to right: words, numbers, lists, bytes and maps.
+// The parts of a case, read out of its line from left to right: words, numbers, lists, bytes and maps. Each is read from a place of
+// the line, and answers where the next one starts. Where it is not there that is `LOST`, and nothing is read from there on: a case
+// is in form where its last part ends at the line's end.
 ghost use Prim.Native.Nat.{_≤_};
 ghost use lib.ListN.{length as size};
-ghost use Rattle.bench.specs.Fits.{ListFits, MapFits};
 
-// Where the next part of a line starts.
-pub struct Cursor {
-    pub at: usize,
+// No line is so long.
+const LOST: usize = usize::MAX;
+
+// A number, or a list's length. The list's numbers are in the slice that was lent.
+pub struct NumberPart {
+    pub value: usize,
+    pub next: usize,
 }
 
-// A step past what is wanted, where that stands at the cursor.
-pub enum Step {
-    To(Cursor),
-    Missing,
-}
-
-pub enum Number {
-    Read { value: usize, next: Cursor },
-    Wrong,
-}
-
-// A number of a list, and how often it stands there.
-pub enum Run {
-    Read {
-        value: u16,
-        times: usize,
-        next: Cursor,
-    },
-    Wrong,
-}
-
-// A list's length. Its numbers are in the slice that was lent.
-pub enum Numbers {
-    Read { length: usize, next: Cursor },
-    Wrong,
+// A number of a list, and how often it stands there from here on.
+pub struct RunPart {
+    pub value: usize,
+    pub times: usize,
+    pub next: usize,
 }
 
 // A map's two numbers and its table's length. The table is in the slice that was lent.
-pub enum Map {
-    Read {
-        n: usize,
-        m: usize,
-        length: usize,
-        next: Cursor,
-    },
-    Wrong,
+pub struct MapPart {
+    pub n: usize,
+    pub m: usize,
+    pub length: usize,
+    pub next: usize,
 }
 
 fn wide(x: u8) -> usize {
@@ -61,231 +43,197 @@ fn digit(b: u8) -> usize {
     wide(b - b'0')
 }
 
-fn fill(numbers: &mut [u16], from: usize, to: usize, value: u16)
-    requires { ⌜ to ≤ size (now numbers) ⌝ }
-{
-    let mut i = from;
-    while i < to {
-        numbers[i] = value;
+// Past one byte.
+fn byte(line: &[u8], at: usize, b: u8) -> usize {
+    if line.len() <= at {
+        return LOST;
+    }
+    if line[at] != b {
+        return LOST;
+    }
+    at + 1
+}
+
+// A case starts with its word.
+pub(crate) fn word(line: &[u8], word: &[u8]) -> usize {
+    let mut at = 0;
+    let mut i = 0;
+    while i < word.len() {
+        at = byte(line, at, word[i]);
         i += 1;
+    }
+    at
+}
+
+fn lost() -> NumberPart
+    ensures { λ r. ⌜ r .value ≤ 0 ⌝ }
+{
+    NumberPart {
+        value: 0,
+        next: LOST,
     }
 }
 
-fn fill_bytes(bytes: &mut [u8], start: usize, end: usize, value: u8)
-    requires { ⌜ end ≤ size (now bytes) ⌝ }
+// Decimal digits, at least one, of a number below 2^64.
+fn digits(line: &[u8], start: usize) -> NumberPart {
+    let mut at = start;
+    let mut value: usize = 0;
+    while at < line.len() {
+        let d = digit(line[at]);
+        if 9 < d {
+            break;
+        }
+        if (usize::MAX - d) / 10 < value {
+            return lost();
+        }
+        value = value * 10 + d;
+        at += 1;
+    }
+    if at == start {
+        return lost();
+    }
+    NumberPart { value, next: at }
+}
+
+// A space and a number.
+pub(crate) fn number(line: &[u8], at: usize) -> NumberPart {
+    digits(line, byte(line, at, b' '))
+}
+
+// A number that is at most `most`.
+fn bounded(read: NumberPart, most: usize) -> NumberPart
+    ensures { λ r. ⌜ r .value ≤ most ⌝ }
 {
-    let mut i = start;
-    while i < end {
-        bytes[i] = value;
-        i += 1;
+    if most < read.value {
+        return lost();
+    }
+    read
+}
+
+// How often the number before the place stands in its list: once, where no `*` follows it, and never 0 times.
+fn times(line: &[u8], at: usize) -> NumberPart {
+    let star = byte(line, at, b'*');
+    if star == LOST {
+        return NumberPart { value: 1, next: at };
+    }
+    let read = digits(line, star);
+    if read.value == 0 {
+        return lost();
+    }
+    read
+}
+
+// A space, a number of a list, which is at most `most`, and how often it stands there.
+fn run(line: &[u8], at: usize, most: usize) -> RunPart
+    ensures { λ r. ⌜ r .value ≤ most ⌝ }
+{
+    let read = bounded(number(line, at), most);
+    let count = times(line, read.next);
+    RunPart {
+        value: read.value,
+        times: count.value,
+        next: count.next,
     }
 }
 
-impl Cursor {
-    pub(crate) fn start() -> Cursor {
-        Cursor { at: 0 }
-    }
-
-    fn byte(self, line: &[u8], b: u8) -> Step {
-        let at = self.at;
-        if line.len() <= at {
-            return Step::Missing;
-        }
-        if line[at] != b {
-            return Step::Missing;
-        }
-        Step::To(Cursor { at: at + 1 })
-    }
-
-    pub(crate) fn word(self, line: &[u8], word: &[u8]) -> Step {
-        let mut at = self.at;
-        let mut i = 0;
-        while i < word.len() {
-            let Step::To(next) = (Cursor { at }).byte(line, word[i]) else {
-                return Step::Missing;
-            };
-            at = next.at;
-            i += 1;
-        }
-        Step::To(Cursor { at })
-    }
-
-    // Decimal digits, at least one, of a number below 2^64.
-    fn digits(self, line: &[u8]) -> Number {
-        let start = self.at;
-        let mut at = start;
-        let mut value: usize = 0;
-        while at < line.len() {
-            let d = digit(line[at]);
-            if 9 < d {
-                break;
-            }
-            if usize::MAX / 10 < value {
-                return Number::Wrong;
-            }
-            if usize::MAX - value * 10 < d {
-                return Number::Wrong;
-            }
-            value = value * 10 + d;
-            at += 1;
-        }
-        if at == start {
-            return Number::Wrong;
-        }
-        Number::Read {
-            value,
-            next: Cursor { at },
-        }
-    }
-
-    // A space and a number.
-    pub(crate) fn number(self, line: &[u8]) -> Number {
-        let Step::To(next) = self.byte(line, b' ') else {
-            return Number::Wrong;
+// The next number of a list: the same again, or that of the next run.
+fn again(line: &[u8], before: RunPart, most: usize) -> RunPart
+    requires { ⌜ before .value ≤ most ⌝ }
+    ensures { λ r. ⌜ r .value ≤ most ⌝ }
+{
+    if 1 < before.times {
+        return RunPart {
+            value: before.value,
+            times: before.times - 1,
+            next: before.next,
         };
-        next.digits(line)
     }
+    run(line, before.next, most)
+}
 
-    // How often the number before the cursor stands in its list: once, where no `*` follows it.
-    fn times(self, line: &[u8]) -> Number {
-        let Step::To(next) = self.byte(line, b'*') else {
-            return Number::Read {
-                value: 1,
-                next: self,
-            };
-        };
-        next.digits(line)
+// What stands before the first number of a list.
+fn none(at: usize) -> RunPart
+    ensures { λ r. ⌜ r .value ≤ 0 ⌝ }
+{
+    RunPart {
+        value: 0,
+        times: 0,
+        next: at,
     }
+}
 
-    // A space, a number of a list, and how often it stands there.
-    fn run(self, line: &[u8]) -> Run {
-        let Number::Read { value, next } = self.number(line) else {
-            return Run::Wrong;
-        };
-        if 65535 < value {
-            return Run::Wrong;
-        }
-        let Number::Read {
-            value: times,
-            next: after,
-        } = next.times(line)
-        else {
-            return Run::Wrong;
-        };
-        Run::Read {
-            value: value as u16,
-            times,
-            next: after,
-        }
+// Where a list ends. No more of its last run may be left.
+fn end(last: RunPart) -> usize {
+    if 1 < last.times {
+        return LOST;
     }
+    last.next
+}
 
-    // A list's length and its numbers. The runs must fill it exactly, and none is empty.
-    pub(crate) fn list(self, line: &[u8], numbers: &mut [u16]) -> Numbers
-        ensures { λ r. ⌜ ListFits (size (now (numbers .entry))) r ⌝ }
-    {
-        let Number::Read {
-            value: length,
-            next,
-        } = self.number(line)
-        else {
-            return Numbers::Wrong;
-        };
-        if numbers.len() < length {
-            return Numbers::Wrong;
-        }
-        let mut cursor = next;
-        let mut filled = 0;
-        while filled < length {
-            let Run::Read {
-                value,
-                times,
-                next: after,
-            } = cursor.run(line)
-            else {
-                return Numbers::Wrong;
-            };
-            if times == 0 {
-                return Numbers::Wrong;
-            }
-            if length - filled < times {
-                return Numbers::Wrong;
-            }
-            fill(numbers, filled, filled + times, value);
-            filled += times;
-            cursor = after;
-        }
-        Numbers::Read {
-            length,
-            next: cursor,
-        }
+// The numbers of a list, as many as the slice has.
+fn fill(line: &[u8], before: RunPart, numbers: &mut [u16]) -> RunPart
+    requires { ⌜ before .value ≤ 65535 ⌝ }
+{
+    let mut read = before;
+    let mut i = 0;
+    while i < numbers.len() {
+        read = again(line, read, 65535);
+        numbers[i] = read.value as u16;
+        i += 1;
     }
+    read
+}
 
-    // The bytes of a drawer, which are a list of numbers up to 255.
-    pub(crate) fn bytes(self, line: &[u8], bytes: &mut [u8]) -> Numbers
-        ensures { λ r. ⌜ ListFits (size (now (bytes .entry))) r ⌝ }
-    {
-        let Number::Read {
-            value: length,
-            next,
-        } = self.number(line)
-        else {
-            return Numbers::Wrong;
-        };
-        if bytes.len() < length {
-            return Numbers::Wrong;
-        }
-        let mut cursor = next;
-        let mut filled = 0;
-        while filled < length {
-            let Run::Read {
-                value,
-                times,
-                next: after,
-            } = cursor.run(line)
-            else {
-                return Numbers::Wrong;
-            };
-            if 255 < value {
-                return Numbers::Wrong;
-            }
-            if times == 0 {
-                return Numbers::Wrong;
-            }
-            if length - filled < times {
-                return Numbers::Wrong;
-            }
-            fill_bytes(bytes, filled, filled + times, value as u8);
-            filled += times;
-            cursor = after;
-        }
-        Numbers::Read {
-            length,
-            next: cursor,
-        }
+fn fill_bytes(line: &[u8], before: RunPart, bytes: &mut [u8]) -> RunPart
+    requires { ⌜ before .value ≤ 255 ⌝ }
+{
+    let mut read = before;
+    let mut i = 0;
+    while i < bytes.len() {
+        read = again(line, read, 255);
+        bytes[i] = read.value as u8;
+        i += 1;
     }
+    read
+}
 
-    // N, M and the table.
-    pub(crate) fn map(self, line: &[u8], table: &mut [u16]) -> Map
-        ensures { λ r. ⌜ MapFits (size (now (table .entry))) r ⌝ }
-    {
-        let Number::Read { value: n, next } = self.number(line) else {
-            return Map::Wrong;
-        };
-        let Number::Read {
-            value: m,
-            next: after,
-        } = next.number(line)
-        else {
-            return Map::Wrong;
-        };
-        let Numbers::Read { length, next: end } = after.list(line, table) else {
-            return Map::Wrong;
-        };
-        Map::Read {
-            n,
-            m,
-            length,
-            next: end,
-        }
+// A list's length and its numbers, which its runs must fill exactly.
+pub(crate) fn list(line: &[u8], at: usize, numbers: &mut [u16]) -> NumberPart
+    ensures { λ r. ⌜ r .value ≤ size (now (numbers .entry)) ⌝ }
+{
+    let head = bounded(number(line, at), numbers.len());
+    let length = head.value;
+    let last = fill(line, none(head.next), &mut numbers[0..length]);
+    NumberPart {
+        value: length,
+        next: end(last),
+    }
+}
+
+// The bytes of a drawer, which are a list of numbers up to 255.
+pub(crate) fn bytes(line: &[u8], at: usize, bytes: &mut [u8]) -> NumberPart
+    ensures { λ r. ⌜ r .value ≤ size (now (bytes .entry)) ⌝ }
+{
+    let head = bounded(number(line, at), bytes.len());
+    let length = head.value;
+    let last = fill_bytes(line, none(head.next), &mut bytes[0..length]);
+    NumberPart {
+        value: length,
+        next: end(last),
+    }
+}
+
+// N, M and the table.
+pub(crate) fn map(line: &[u8], at: usize, table: &mut [u16]) -> MapPart
+    ensures { λ r. ⌜ r .length ≤ size (now (table .entry)) ⌝ }
+{
+    let n = number(line, at);
+    let m = number(line, n.next);
+    let numbers = list(line, m.next, table);
+    MapPart {
+        n: n.value,
+        m: m.value,
+        length: numbers.value,
+        next: numbers.next,
     }
 }

@@ -1,4 +1,4 @@
--- `bench::print::bytes` is safe and ends: a turn puts one byte, and the next place is in the buffer. Assumes nothing.
+-- `bench::print::bytes` is safe and ends: a turn takes a byte, and no run is longer than what was taken. Assumes nothing.
 use Prim.Native.Nat.{_≤_, _-_}
 use lib.ListN.{length}
 use borrow.Author.Needs.{needs}
@@ -6,10 +6,10 @@ use Rattle.bench.proofs.print.bytes.Statement.{statement}
 use Rattle.bench.proofs.print.bytes.Tie as tie
 
 abbrev Inv-loop : tie.InvT-loop
-Inv-loop out₀ at text to₀ i₀ out to i = to ≤ 4096
+Inv-loop list begun₀ i₀ begun i = begun .times ≤ i
 
 abbrev μ-loop : tie.MeasureT-loop
-μ-loop out₀ at text to₀ i₀ out to i = length text - i
+μ-loop list begun₀ i₀ begun i = length list - i
 
 pub bytes-spec : {M : Type 1} → statement M
 bytes-spec =
@@ -20,7 +20,9 @@ bytes-spec =
     (λ c. search needs)
     (λ c. search needs)
     (λ c κs. search needs)
+    (λ c κs. search needs)
     (λ c. search needs)
     (λ c. search needs)
     (λ c. search needs)
+    (λ c κs. search needs)
     (λ c. search needs))

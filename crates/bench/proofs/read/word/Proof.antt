@@ -1,9 +1,9 @@
--- `bench::read::Cursor::word` is safe and ends: a turn passes a byte of the word. Assumes nothing.
+-- `bench::read::word` is safe and ends: a turn passes a byte of the word. Assumes nothing.
 use Prim.Native.Nat.{_-_}
 use lib.ListN.{length}
 use borrow.Author.Needs.{needs}
-use Rattle.bench.proofs.read.Cursor.word.Statement.{statement}
-use Rattle.bench.proofs.read.Cursor.word.Tie as tie
+use Rattle.bench.proofs.read.word.Statement.{statement}
+use Rattle.bench.proofs.read.word.Tie as tie
 
 abbrev Inv-loop : tie.InvT-loop
 Inv-loop line word at₀ i₀ at i = Unit {0}
@@ -20,9 +20,6 @@ word-spec =
     (λ c. search needs)
     (λ c. search needs)
     (λ c κs. search needs)
-    (λ c. search needs)
-    (λ c. search needs)
-    (λ c. search needs)
     (λ c. search needs)
     (λ c. search needs)
     (λ c. search needs)

@@ -1,9 +1,9 @@
--- `bench::read::Cursor::digits` is safe and ends: a turn passes a byte of the line. Assumes nothing.
+-- `bench::read::digits` is safe and ends: a turn passes a byte of the line. Assumes nothing.
 use Prim.Native.Nat.{_-_}
 use lib.ListN.{length}
 use borrow.Author.Needs.{needs}
-use Rattle.bench.proofs.read.Cursor.digits.Statement.{statement}
-use Rattle.bench.proofs.read.Cursor.digits.Tie as tie
+use Rattle.bench.proofs.read.digits.Statement.{statement}
+use Rattle.bench.proofs.read.digits.Tie as tie
 
 abbrev Inv-loop : tie.InvT-loop
 Inv-loop line start at₀ value₀ at value = Unit {0}
@@ -21,13 +21,13 @@ digits-spec =
     (λ c. search needs)
     (λ c κs. search needs)
     (λ c. search needs)
+    (λ c κs. search needs)
     (λ c. search needs)
     (λ c. search needs)
     (λ c. search needs)
     (λ c. search needs)
     (λ c. search needs)
     (λ c. search needs)
-    (λ c. search needs)
-    (λ c. search needs)
+    (λ c κs. search needs)
     (λ c. search needs)
     (λ c. search needs))

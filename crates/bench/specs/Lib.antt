@@ -1,2 +1,0 @@
--- What the reading of a case promises.
-pub mod Fits

@@ -53,9 +53,13 @@ static struct {
 
 // As a case, on the list and the bytes that it may write to.
 static struct test_case as_case(uint16_t *numbers, uint8_t *bytes) {
-  return (struct test_case){
-      input.call, input.die, map_lent(&input.first), map_lent(&input.second),
-      {numbers, input.length}, input.drawer.count, {bytes, input.drawer.length}};
+  return (struct test_case){input.call,
+                            input.die,
+                            map_lent(&input.first),
+                            map_lent(&input.second),
+                            {numbers, input.length},
+                            input.drawer.count,
+                            {bytes, input.drawer.length}};
 }
 
 // What one program answered, and what it left.
@@ -89,8 +93,7 @@ static void print_input(void) {
 
 static void print_answer(const char *name, const struct side *side) {
   const uint64_t *numbers = side->answer.numbers;
-  printf("  %s  %" PRIu64 " %" PRIu64 " %" PRIu64 " %" PRIu64 "\n", name, numbers[0], numbers[1],
-         numbers[2], numbers[3]);
+  printf("  %s  %" PRIu64 " %" PRIu64 " %" PRIu64 " %" PRIu64 "\n", name, numbers[0], numbers[1], numbers[2], numbers[3]);
 }
 
 // ---- Maps ----
@@ -101,8 +104,7 @@ static struct map right_map(void) {
   if (one_in(3000)) {
     return accepted_map(&chance, n, MOST_ENTRIES / n);
   }
-  return one_in(100) ? any_accepted_map(&chance, MOST_ENTRIES)
-                     : accepted_map(&chance, n, 1 + below(7));
+  return one_in(100) ? any_accepted_map(&chance, MOST_ENTRIES) : accepted_map(&chance, n, 1 + below(7));
 }
 
 static struct map nearly_right_map(void) {
@@ -155,23 +157,20 @@ static struct map largest_map(void) {
 }
 
 static struct map any_map(void) {
-  switch (below(16)) {
-  case 0:
-  case 1:
-  case 2:
+  uint64_t way = below(16);
+  if (way < 3) {
     return blind_map();
-  case 3:
-  case 4:
-  case 5:
-    return nearly_right_map();
-  case 6:
-  case 7:
-    return refused_map(&chance, table_refusals[below(TABLE_REFUSALS)], 24);
-  case 8:
-    return one_in(8) ? largest_map() : twice_refused_map(&chance, 24);
-  default:
-    return right_map();
   }
+  if (way < 6) {
+    return nearly_right_map();
+  }
+  if (way < 8) {
+    return refused_map(&chance, table_refusals[below(TABLE_REFUSALS)], 24);
+  }
+  if (way == 8) {
+    return one_in(8) ? largest_map() : twice_refused_map(&chance, 24);
+  }
+  return right_map();
 }
 
 // ---- Lists and outputs ----
@@ -187,8 +186,7 @@ static struct map any_second_map(void) {
     return one_in(2) ? near : accepted_map(&chance, near.n, near.m);
   }
   struct map changed;
-  if ((way == 3 && map_mirrored(&near, &changed)) ||
-      (way == 4 && map_less_one_sewing(&chance, &near, &changed)) ||
+  if ((way == 3 && map_mirrored(&near, &changed)) || (way == 4 && map_less_one_sewing(&chance, &near, &changed)) ||
       (way == 5 && map_with_loose_end_turned(&chance, &near, &changed))) {
     near = changed;
   }
@@ -205,42 +203,23 @@ static void spoil_list(void) {
   size_t one = (size_t)below(input.length + 1);
   size_t other = (size_t)below(input.length + 1);
   uint16_t number = input.numbers[one];
-  switch (below(8)) {
-  case 0:
+  uint64_t way = below(8);
+  if (way == 0) {
     input.numbers[one] = input.numbers[other];
     input.numbers[other] = number;
-    break;
-  case 1:
+  } else if (way == 1) {
     input.numbers[one] = (uint16_t)below(input.length + 2);
-    break;
-  case 2:
+  } else if (way == 2) {
     input.length = one;
-    break;
-  case 3:
+  } else if (way == 3) {
     input.length++;
-    break;
-  default:
-    break;
   }
 }
 
+// Half of the outputs are as long as they need be.
 static void draw_output(size_t needed) {
-  switch (below(8)) {
-  case 0:
-    input.length = needed + 1;
-    break;
-  case 1:
-    input.length = needed + (size_t)below(9);
-    break;
-  case 2:
-    input.length = needed - (needed != 0);
-    break;
-  case 3:
-    input.length = (size_t)below(needed + 1);
-    break;
-  default:
-    input.length = needed;
-  }
+  const size_t others[] = {needed + 1, needed + (size_t)below(9), needed - (needed != 0), (size_t)below(needed + 1)};
+  input.length = one_in(2) ? needed : others[below(4)];
   uint16_t mark = (uint16_t)chance_next(&chance);
   for (size_t at = 0; at < input.length; at++) {
     input.numbers[at] = (uint16_t)(mark + at);
@@ -284,8 +263,7 @@ static struct drawer small_drawer(void) {
   while (records-- > 0) {
     struct map map = right_map();
     uint32_t die = any_die(&drawer);
-    struct second_filed filed =
-        second_add(die, map_lent(&map), drawer.count, drawer.bytes, drawer.length);
+    struct second_filed filed = second_add(die, map_lent(&map), drawer.count, drawer.bytes, drawer.length);
     drawer.count += filed.number == 0;
   }
   return drawer;

@@ -1,6 +1,6 @@
 // Reads cases `sign` and `match` in the form of CASES.md and asks the library about each map and each two maps in turn: as they
-// are, with other lengths of output, renumbered, with the signature as the table, turned about, with the list that the match shows
-// and with lists near it. What the check, the signature, the match and the judging say must go together.
+// are, with other lengths of output, renumbered, with the signature as the table, turned about, with the list that the match
+// shows and with lists near it. What the check, the signature, the match and the judging say must go together.
 #include <inttypes.h>
 #include <stdio.h>
 #include <string.h>
@@ -134,7 +134,8 @@ static struct second_verdict ask_judge(struct pair pair, const uint16_t *list, u
   return library_judge(pair.first, pair.second, list, (size_t)length);
 }
 
-static void expect_judged(struct pair pair, const uint16_t *list, uint64_t length, struct second_verdict right, const char *what) {
+static void expect_judged(struct pair pair, const uint16_t *list, uint64_t length, struct second_verdict right,
+                          const char *what) {
   expect(same_verdicts(ask_judge(pair, list, length), right), pair.first, what);
 }
 

@@ -39,18 +39,12 @@ static const char *call_name;
 static enum side side = SIDES;
 static uint64_t held[ANSWER_NUMBERS];
 
-void (*say_what_was_asked)(void);
-
 // ---- What is said ----
 
 // No lock can be held: what is caught was done by the library, which calls nothing.
 static _Noreturn void stop(const char *what, const char *name) {
   fflush(stdout);
   fprintf(stderr, "%s %s%s\n", call_name == NULL ? "outside of a call:" : call_name, what, name);
-  if (say_what_was_asked != NULL) {
-    say_what_was_asked();
-    fflush(stdout);
-  }
   _exit(GUARD_TOUCHED);
 }
 

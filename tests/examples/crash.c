@@ -19,15 +19,6 @@ int __real_fsync(int file);
 int __real_rename(const char *from, const char *to);
 int __real_unlink(const char *path);
 
-int __wrap_open(const char *path, int flags, ...);
-int __wrap_fcntl(int file, int command, ...);
-int __wrap_ftruncate(int file, off_t length);
-ssize_t __wrap_write(int file, const void *bytes, size_t length);
-int __wrap_fchmod(int file, mode_t mode);
-int __wrap_fsync(int file);
-int __wrap_rename(const char *from, const char *to);
-int __wrap_unlink(const char *path);
-
 static bool is_at(const char *name, long step) {
   const char *at = getenv(name);
   return at != NULL && strtol(at, NULL, 10) == step;

@@ -28,8 +28,7 @@ void expect(bool holds, struct second_map map, const char *what) {
   }
   failed++;
   if (failed <= MOST_SHOWN) {
-    printf("FAILED case %" PRIu64 ", n %" PRIu64 ", m %" PRIu64 ": %s\n", cases, map.n, map.m,
-           what);
+    printf("FAILED case %" PRIu64 ", n %" PRIu64 ", m %" PRIu64 ": %s\n", cases, map.n, map.m, what);
   }
 }
 

@@ -1,5 +1,4 @@
-// What turns.c, pairs.c, runs.c and inputs.c share: counting what holds and what was given, outputs
-// that show a change, and other numberings.
+// What turns.c and runs.c share: counting what holds and what was given, outputs that show a change, and other numberings.
 #ifndef EXPECT_H
 #define EXPECT_H
 

@@ -39,24 +39,17 @@ static const char *call_name;
 static enum side side = SIDES;
 static uint64_t held[ANSWER_NUMBERS];
 
-void (*say_what_was_asked)(void);
-
 // ---- What is said ----
 
 // No lock can be held: what is caught was done by the library, which calls nothing.
 static _Noreturn void stop(const char *what, const char *name) {
   fflush(stdout);
   fprintf(stderr, "%s %s%s\n", call_name == NULL ? "outside of a call:" : call_name, what, name);
-  if (say_what_was_asked != NULL) {
-    say_what_was_asked();
-    fflush(stdout);
-  }
   _exit(GUARD_TOUCHED);
 }
 
 // Some emulators call a handler with a stack that is not aligned as C wants it.
-__attribute__((force_align_arg_pointer)) static void on_fault(int signal_number, siginfo_t *info,
-                                                              void *context) {
+__attribute__((force_align_arg_pointer)) static void on_fault(int signal_number, siginfo_t *info, void *context) {
   (void)signal_number;
   (void)context;
   const uint8_t *touched = info->si_addr;
@@ -100,8 +93,7 @@ static void make_room(struct area *area, size_t length) {
   }
   protect(area->open, area->open_length, PROT_NONE);
   size_t room = rounded_up(2 * length + 1, EDGE);
-  uint8_t *whole =
-      mmap(NULL, room + 3 * EDGE, PROT_NONE, MAP_PRIVATE | MAP_ANONYMOUS | MAP_NORESERVE, -1, 0);
+  uint8_t *whole = mmap(NULL, room + 3 * EDGE, PROT_NONE, MAP_PRIVATE | MAP_ANONYMOUS | MAP_NORESERVE, -1, 0);
   if (whole == MAP_FAILED) {
     stop("could not be lent memory", "");
   }
@@ -129,8 +121,7 @@ struct fence {
 };
 
 static struct fence fence_of(const struct area *area, size_t length) {
-  return (struct fence){side == AT_START ? area->open + length : area->open,
-                        area->open_length - length};
+  return (struct fence){side == AT_START ? area->open + length : area->open, area->open_length - length};
 }
 
 static uint8_t *lend_pages(const char *name, const void *bytes, size_t length, uint8_t *back) {
@@ -171,8 +162,7 @@ void *lend_to_write(const char *name, void *bytes, size_t length) {
 // All bytes are the first one where each is the next one.
 static void look_at_fence(const struct buffer *buffer, const struct area *area) {
   struct fence fence = fence_of(area, buffer->length);
-  if (fence.length != 0 && (fence.bytes[0] != FENCE_BYTE ||
-                            memcmp(fence.bytes, fence.bytes + 1, fence.length - 1) != 0)) {
+  if (fence.length != 0 && (fence.bytes[0] != FENCE_BYTE || memcmp(fence.bytes, fence.bytes + 1, fence.length - 1) != 0)) {
     stop(side == AT_START ? "writes behind the " : "writes before the ", buffer->name);
   }
 }

@@ -24,7 +24,4 @@ void *lend_to_write(const char *name, void *bytes, size_t length);
 enum { ANSWER_NUMBERS = 4 };
 void hold_answer(const uint64_t *numbers);
 
-// Where set, it is called before the program ends, to say what was asked.
-extern void (*say_what_was_asked)(void);
-
 #endif

@@ -9,24 +9,14 @@
 #include <unistd.h>
 
 #include "../../include/duftheim.h"
+#include "../cases/ask.h"
 #include "guard.h"
-#include "library.h"
 
 enum { MOST_BUFFERS = 3, MANY_PAGES = 30000, MOST_LENGTH = 140000, WRITTEN = 77 };
 
 // ---- The calls in the library's place ----
 
-enum deed {
-  READ_BEFORE,
-  READ_BEHIND,
-  WRITE_BEFORE,
-  WRITE_BEHIND,
-  WRITE_INSIDE,
-  OTHER_BYTES,
-  OTHER_ANSWER,
-  ALL_INSIDE,
-  DEEDS
-};
+enum deed { READ_BEFORE, READ_BEHIND, WRITE_BEFORE, WRITE_BEHIND, WRITE_INSIDE, OTHER_BYTES, OTHER_ANSWER, ALL_INSIDE, DEEDS };
 
 // What the next call does, and to which of its buffers.
 static enum deed deed;
@@ -86,59 +76,47 @@ static uint32_t done(const struct lent *lent) {
   }
 }
 
-struct duftheim_verdict duftheim_check(size_t n, size_t m, const uint16_t *table,
-                                       size_t table_length) {
+struct duftheim_verdict duftheim_check(size_t n, size_t m, const uint16_t *table, size_t table_length) {
   struct lent lent[MOST_BUFFERS] = {{table, 2 * table_length, false}};
   return (struct duftheim_verdict){done(lent), n * m};
 }
 
-struct duftheim_signed duftheim_signature(size_t n, size_t m, const uint16_t *table,
-                                          size_t table_length, uint16_t *output,
+struct duftheim_signed duftheim_signature(size_t n, size_t m, const uint16_t *table, size_t table_length, uint16_t *output,
                                           size_t output_length) {
-  struct lent lent[MOST_BUFFERS] = {{table, 2 * table_length, false},
-                                    {output, 2 * output_length, true}};
+  struct lent lent[MOST_BUFFERS] = {{table, 2 * table_length, false}, {output, 2 * output_length, true}};
   return (struct duftheim_signed){done(lent), n * m, 0, 0};
 }
 
-struct duftheim_verdict duftheim_match(size_t n, size_t m, const uint16_t *table,
-                                       size_t table_length, size_t second_n, size_t second_m,
-                                       const uint16_t *second_table, size_t second_table_length,
+struct duftheim_verdict duftheim_match(size_t n, size_t m, const uint16_t *table, size_t table_length, size_t second_n,
+                                       size_t second_m, const uint16_t *second_table, size_t second_table_length,
                                        uint16_t *output, size_t output_length) {
-  struct lent lent[MOST_BUFFERS] = {{table, 2 * table_length, false},
-                                    {second_table, 2 * second_table_length, false},
-                                    {output, 2 * output_length, true}};
+  struct lent lent[MOST_BUFFERS] = {
+      {table, 2 * table_length, false}, {second_table, 2 * second_table_length, false}, {output, 2 * output_length, true}};
   return (struct duftheim_verdict){done(lent), n * m * second_n * second_m};
 }
 
-struct duftheim_verdict duftheim_judge(size_t n, size_t m, const uint16_t *table,
-                                       size_t table_length, size_t second_n, size_t second_m,
-                                       const uint16_t *second_table, size_t second_table_length,
+struct duftheim_verdict duftheim_judge(size_t n, size_t m, const uint16_t *table, size_t table_length, size_t second_n,
+                                       size_t second_m, const uint16_t *second_table, size_t second_table_length,
                                        const uint16_t *list, size_t list_length) {
-  struct lent lent[MOST_BUFFERS] = {{table, 2 * table_length, false},
-                                    {second_table, 2 * second_table_length, false},
-                                    {list, 2 * list_length, false}};
+  struct lent lent[MOST_BUFFERS] = {
+      {table, 2 * table_length, false}, {second_table, 2 * second_table_length, false}, {list, 2 * list_length, false}};
   return (struct duftheim_verdict){done(lent), n * m * second_n * second_m};
 }
 
-struct duftheim_verdict duftheim_drawer_check(size_t count, const uint8_t *drawer,
-                                              size_t drawer_length) {
+struct duftheim_verdict duftheim_drawer_check(size_t count, const uint8_t *drawer, size_t drawer_length) {
   struct lent lent[MOST_BUFFERS] = {{drawer, drawer_length, false}};
   return (struct duftheim_verdict){done(lent), count};
 }
 
-struct duftheim_found duftheim_search(size_t n, size_t m, const uint16_t *table,
-                                      size_t table_length, size_t count, const uint8_t *drawer,
-                                      size_t drawer_length) {
-  struct lent lent[MOST_BUFFERS] = {{table, 2 * table_length, false},
-                                    {drawer, drawer_length, false}};
+struct duftheim_found duftheim_search(size_t n, size_t m, const uint16_t *table, size_t table_length, size_t count,
+                                      const uint8_t *drawer, size_t drawer_length) {
+  struct lent lent[MOST_BUFFERS] = {{table, 2 * table_length, false}, {drawer, drawer_length, false}};
   return (struct duftheim_found){done(lent), n * m, 0, count};
 }
 
-struct duftheim_filed duftheim_file(uint32_t die, size_t n, size_t m, const uint16_t *table,
-                                    size_t table_length, size_t count, uint8_t *drawer,
-                                    size_t drawer_length) {
-  struct lent lent[MOST_BUFFERS] = {{table, 2 * table_length, false},
-                                    {drawer, drawer_length, true}};
+struct duftheim_filed duftheim_file(uint32_t die, size_t n, size_t m, const uint16_t *table, size_t table_length, size_t count,
+                                    uint8_t *drawer, size_t drawer_length) {
+  struct lent lent[MOST_BUFFERS] = {{table, 2 * table_length, false}, {drawer, drawer_length, true}};
   return (struct duftheim_filed){done(lent), n * m * die, count};
 }
 
@@ -154,65 +132,36 @@ static uint16_t second_table[MOST_LENGTH / 2];
 static uint16_t last[MOST_LENGTH / 2];
 static uint8_t *const drawer = (uint8_t *)last;
 
-static struct second_map first_map(void) {
-  return (struct second_map){1, 1, table, length / 2};
-}
-
-static struct second_map second_map(void) {
-  return (struct second_map){1, 1, second_table, length / 2};
-}
-
-// A drawer may have an odd number of bytes.
-static size_t drawer_length(void) {
-  return length == 6 ? 7 : length;
-}
-
-static void ask_check(void) {
-  library_check(first_map());
-}
-
-static void ask_sign(void) {
-  library_sign(first_map(), last, length / 2);
-}
-
-static void ask_match(void) {
-  library_match(first_map(), second_map(), last, length / 2);
-}
-
-static void ask_judge(void) {
-  library_judge(first_map(), second_map(), last, length / 2);
-}
-
-static void ask_drawer(void) {
-  library_drawer(0, drawer, drawer_length());
-}
-
-static void ask_find(void) {
-  library_find(first_map(), 0, drawer, drawer_length());
-}
-
-static void ask_add(void) {
-  library_add(1, first_map(), 0, drawer, drawer_length());
-}
-
 // Only the last buffer of a call is ever written.
-struct call {
+struct guarded {
+  enum call call;
   const char *name;
-  void (*ask)(void);
   bool writes;
   size_t count;
   const char *buffers[MOST_BUFFERS];
 };
 
-static const struct call calls[] = {
-    {"duftheim_check", ask_check, false, 1, {"table"}},
-    {"duftheim_signature", ask_sign, true, 2, {"table", "output"}},
-    {"duftheim_match", ask_match, true, 3, {"table", "second table", "output"}},
-    {"duftheim_judge", ask_judge, false, 3, {"table", "second table", "list"}},
-    {"duftheim_drawer_check", ask_drawer, false, 1, {"drawer"}},
-    {"duftheim_search", ask_find, false, 2, {"table", "drawer"}},
-    {"duftheim_file", ask_add, true, 2, {"table", "drawer"}},
+static const struct guarded calls[] = {
+    {CHECK, "duftheim_check", false, 1, {"table"}},
+    {SIGN, "duftheim_signature", true, 2, {"table", "output"}},
+    {MATCH, "duftheim_match", true, 3, {"table", "second table", "output"}},
+    {JUDGE, "duftheim_judge", false, 3, {"table", "second table", "list"}},
+    {DRAWER, "duftheim_drawer_check", false, 1, {"drawer"}},
+    {FIND, "duftheim_search", false, 2, {"table", "drawer"}},
+    {ADD, "duftheim_file", true, 2, {"table", "drawer"}},
 };
+
+// A drawer may have an odd number of bytes.
+static void ask(const struct guarded *call) {
+  size_t numbers = length / 2;
+  struct test_case asked = {.call = call->call,
+                            .die = 1,
+                            .first = {1, 1, table, numbers},
+                            .second = {1, 1, second_table, numbers},
+                            .list = {last, numbers},
+                            .drawer = {drawer, length == 6 ? 7 : length}};
+  ask_library(&asked);
+}
 
 // ---- What must be said ----
 
@@ -231,12 +180,12 @@ static int tried;
 static int failed;
 
 // Lends more pages than most calls that come then, which must be closed to those.
-static void open_many_pages(const struct call *call) {
+static void open_many_pages(const struct guarded *call) {
   size_t kept_length = length;
   enum deed kept_deed = deed;
   length = MANY_PAGES;
   deed = ALL_INSIDE;
-  call->ask();
+  ask(call);
   length = kept_length;
   deed = kept_deed;
   calls_made = 0;
@@ -244,7 +193,7 @@ static void open_many_pages(const struct call *call) {
 }
 
 // What is asked in a process of its own, since a guard ends it.
-static int status_of(const struct call *call, char *message, size_t room) {
+static int status_of(const struct guarded *call, char *message, size_t room) {
   int ends[2];
   // Else the child would print it too.
   fflush(stdout);
@@ -255,7 +204,7 @@ static int status_of(const struct call *call, char *message, size_t room) {
   if (child == 0) {
     dup2(ends[1], STDERR_FILENO);
     open_many_pages(call);
-    call->ask();
+    ask(call);
     // What the call wrote must have come back.
     _exit(call->writes && deed == ALL_INSIDE && length != 0 && drawer[length - 1] != WRITTEN);
   }
@@ -272,7 +221,7 @@ static int status_of(const struct call *call, char *message, size_t room) {
   return WIFEXITED(status) ? WEXITSTATUS(status) : -1;
 }
 
-static void try_deed(const struct call *call) {
+static void try_deed(const struct guarded *call) {
   char message[256];
   char right[256] = "";
   int status = status_of(call, message, sizeof message);
@@ -286,12 +235,11 @@ static void try_deed(const struct call *call) {
   tried++;
   if (status != right_status || (deed == ALL_INSIDE ? said != 0 : !named)) {
     failed++;
-    printf("FAILED %s, deed %d, %s of %zu bytes: status %d, said: %s\n", call->name, (int)deed,
-           buffer, length, status, message);
+    printf("FAILED %s, deed %d, %s of %zu bytes: status %d, said: %s\n", call->name, (int)deed, buffer, length, status, message);
   }
 }
 
-static bool can_be_done(const struct call *call) {
+static bool can_be_done(const struct guarded *call) {
   bool writable = call->writes && victim == call->count - 1;
   switch (deed) {
   case WRITE_INSIDE:

@@ -55,28 +55,26 @@ struct second_signed library_sign(struct second_map map, uint16_t *out, size_t o
   return (struct second_signed){answer.number, answer.place, answer.start, answer.symmetries};
 }
 
-struct second_verdict library_match(struct second_map first, struct second_map second,
-                                    uint16_t *out, size_t out_length) {
+struct second_verdict library_match(struct second_map first, struct second_map second, uint16_t *out, size_t out_length) {
   struct second_verdict verdict = {0, 0};
   while (lend_again("duftheim_match")) {
     const uint16_t *table = lend_table(first);
     const uint16_t *second_table = lend_second_table(second);
     uint16_t *output = lend_output(out, out_length);
-    verdict = given(duftheim_match(first.n, first.m, table, first.length, second.n, second.m,
-                                   second_table, second.length, output, out_length));
+    verdict = given(duftheim_match(first.n, first.m, table, first.length, second.n, second.m, second_table, second.length, output,
+                                   out_length));
   }
   return verdict;
 }
 
-struct second_verdict library_judge(struct second_map first, struct second_map second,
-                                    const uint16_t *list, size_t list_length) {
+struct second_verdict library_judge(struct second_map first, struct second_map second, const uint16_t *list, size_t list_length) {
   struct second_verdict verdict = {0, 0};
   while (lend_again("duftheim_judge")) {
     const uint16_t *table = lend_table(first);
     const uint16_t *second_table = lend_second_table(second);
     const uint16_t *lent_list = lend_numbers("list", list, list_length);
-    verdict = given(duftheim_judge(first.n, first.m, table, first.length, second.n, second.m,
-                                   second_table, second.length, lent_list, list_length));
+    verdict = given(duftheim_judge(first.n, first.m, table, first.length, second.n, second.m, second_table, second.length,
+                                   lent_list, list_length));
   }
   return verdict;
 }
@@ -92,8 +90,7 @@ struct second_verdict library_drawer(uint64_t count, const uint8_t *drawer, size
   return verdict;
 }
 
-struct second_found library_find(struct second_map map, uint64_t count, const uint8_t *drawer,
-                                 size_t drawer_length) {
+struct second_found library_find(struct second_map map, uint64_t count, const uint8_t *drawer, size_t drawer_length) {
   struct duftheim_found answer = {0};
   while (lend_again("duftheim_search")) {
     const uint16_t *table = lend_table(map);
@@ -104,15 +101,13 @@ struct second_found library_find(struct second_map map, uint64_t count, const ui
   return (struct second_found){answer.number, answer.place, answer.die, answer.record};
 }
 
-struct second_part library_record(struct second_map map, uint64_t count, const uint8_t *drawer,
-                                  size_t drawer_length) {
+struct second_part library_record(struct second_map map, uint64_t count, const uint8_t *drawer, size_t drawer_length) {
   struct second_found found = library_find(map, count, drawer, drawer_length);
   const uint8_t *bytes = duftheim_record_bytes(drawer, found.record);
   return (struct second_part){bytes, bytes == NULL ? 0 : DUFTHEIM_RECORD_SIZE};
 }
 
-struct second_filed library_add(uint32_t die, struct second_map map, uint64_t count,
-                                uint8_t *drawer, size_t drawer_length) {
+struct second_filed library_add(uint32_t die, struct second_map map, uint64_t count, uint8_t *drawer, size_t drawer_length) {
   struct duftheim_filed answer = {0};
   while (lend_again("duftheim_file")) {
     const uint16_t *table = lend_table(map);

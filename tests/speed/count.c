@@ -15,15 +15,11 @@ struct qemu_plugin_tb;
 struct qemu_info;
 enum registers_seen { SEES_NO_REGISTERS };
 
-void qemu_plugin_register_vcpu_tb_trans_cb(uint64_t plugin,
-                                           void (*on_block)(uint64_t plugin,
-                                                            struct qemu_plugin_tb *block));
+void qemu_plugin_register_vcpu_tb_trans_cb(uint64_t plugin, void (*on_block)(uint64_t plugin, struct qemu_plugin_tb *block));
 size_t qemu_plugin_tb_n_insns(const struct qemu_plugin_tb *block);
-void qemu_plugin_register_vcpu_tb_exec_cb(struct qemu_plugin_tb *block,
-                                          void (*on_run)(unsigned processor, void *lent),
+void qemu_plugin_register_vcpu_tb_exec_cb(struct qemu_plugin_tb *block, void (*on_run)(unsigned processor, void *lent),
                                           enum registers_seen seen, void *lent);
-void qemu_plugin_register_atexit_cb(uint64_t plugin, void (*on_end)(uint64_t plugin, void *lent),
-                                    void *lent);
+void qemu_plugin_register_atexit_cb(uint64_t plugin, void (*on_end)(uint64_t plugin, void *lent), void *lent);
 void qemu_plugin_outs(const char *text);
 
 // What the emulator looks up by name.

@@ -6,8 +6,8 @@
 #include <stdlib.h>
 #include <string.h>
 
+#include "../../include/duftheim.h"
 #include "kinds.h"
-#include "plain.h"
 
 struct drawer_kind {
   const char *name;
@@ -19,8 +19,7 @@ struct drawer_kind {
 
 static struct map signature_of(const struct map *map) {
   struct map word = map_empty(map->n, map->m);
-  struct plain_signed answer =
-      plain_signature(map->n, map->m, map->table, map->length, word.table, word.length);
+  struct duftheim_signed answer = duftheim_signature(map->n, map->m, map->table, map->length, word.table, word.length);
   if (answer.number != 0) {
     fprintf(stderr, "drawers: a map gives %u\n", answer.number);
     exit(3);
@@ -84,8 +83,7 @@ static struct map draw_versions(uint64_t drawn) {
 
 // Rings, of which all starts yield the same word: n = 1 and 1,020 darts down to 1, and then n = 2.
 static struct map draw_rings(uint64_t drawn) {
-  return drawn < 1020 ? draw_sized("ring-n1", 1020 - drawn, drawn)
-                      : draw_sized("ring", 1530 - drawn, drawn);
+  return drawn < 1020 ? draw_sized("ring-n1", 1020 - drawn, drawn) : draw_sized("ring", 1530 - drawn, drawn);
 }
 
 // Rings of n = 2 and of 510 darts or a few less, with one mark or two: no two starts yield the same
@@ -98,12 +96,8 @@ static struct map draw_marked(uint64_t drawn) {
 }
 
 static const struct drawer_kind drawer_kinds[] = {
-    {"random", draw_random},
-    {"mixed", draw_mixed},
-    {"small", draw_small},
-    {"versions", draw_versions},
-    {"rings", draw_rings},
-    {"marked", draw_marked},
+    {"random", draw_random},     {"mixed", draw_mixed}, {"small", draw_small},
+    {"versions", draw_versions}, {"rings", draw_rings}, {"marked", draw_marked},
 };
 
 static const struct drawer_kind *drawer_kind_named(const char *name) {

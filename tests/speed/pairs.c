@@ -77,8 +77,7 @@ static struct map renamed(const struct map *map, uint64_t seed) {
   return map_inserted(&chance, map);
 }
 
-void make_pair(const struct pair_kind *pair, size_t which, enum pair_relation relation,
-               struct map *first, struct map *second) {
+void make_pair(const struct pair_kind *pair, size_t which, enum pair_relation relation, struct map *first, struct map *second) {
   struct map made = kind_map(map_kind_named(pair->map_kind), which);
   *first = renamed(&made, 2 * which);
   *second = renamed(first, 2 * which + 1);

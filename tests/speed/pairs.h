@@ -24,7 +24,6 @@ extern const size_t pair_kind_count;
 const struct pair_kind *pair_kind_named(const char *map_kind);
 
 // Makes both maps of one pair of the kind, counted from 0.
-void make_pair(const struct pair_kind *pair, size_t which, enum pair_relation relation,
-               struct map *first, struct map *second);
+void make_pair(const struct pair_kind *pair, size_t which, enum pair_relation relation, struct map *first, struct map *second);
 
 #endif

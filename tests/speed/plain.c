@@ -6,8 +6,8 @@ enum order { LESSER, EQUAL, GREATER };
 
 // Labels from one start and compares its first rows with the best ones, number by number. Greater
 // rows are given up at once; lesser ones take the best ones' place from the number where they part.
-static enum order compare_from(const struct map *map, const uint16_t *beta0, size_t start,
-                               struct labelling *labelling, uint16_t *best, size_t rows) {
+static enum order compare_from(const struct map *map, const uint16_t *beta0, size_t start, struct labelling *labelling,
+                               uint16_t *best, size_t rows) {
   enum order order = EQUAL;
   size_t n = map->n;
   visit(labelling, start);
@@ -32,8 +32,7 @@ static enum order compare_from(const struct map *map, const uint16_t *beta0, siz
 }
 
 // Labels from one start and writes its word.
-static void write_from(const struct map *map, const uint16_t *beta0, size_t start,
-                       struct labelling *labelling, uint16_t *word) {
+static void write_from(const struct map *map, const uint16_t *beta0, size_t start, struct labelling *labelling, uint16_t *word) {
   size_t n = map->n;
   visit(labelling, start);
   for (size_t k = 0; k < map->m; k++) {
@@ -91,8 +90,7 @@ static void take_lead(struct signing *signing, size_t start, const uint16_t *que
 }
 
 // All rows of the best word become known.
-static void spell_out(const struct map *map, const uint16_t *beta0, struct labelling *labelling,
-                      struct signing *signing) {
+static void spell_out(const struct map *map, const uint16_t *beta0, struct labelling *labelling, struct signing *signing) {
   forget(labelling);
   write_from(map, beta0, signing->start, labelling, signing->word);
   take_lead(signing, signing->start, labelling->queue, map->m);
@@ -120,8 +118,8 @@ static size_t symmetries(const struct signing *signing, size_t m) {
 
 // Tries starts from one on, until the rows of one are not greater than the best; m + 1 after the
 // last.
-static size_t next_start(const struct map *map, const uint16_t *beta0, size_t start,
-                         struct labelling *labelling, struct signing *signing, enum order *order) {
+static size_t next_start(const struct map *map, const uint16_t *beta0, size_t start, struct labelling *labelling,
+                         struct signing *signing, enum order *order) {
   for (; start <= map->m; start++) {
     if (!is_top(&signing->orbits, start) || signing->ranks.of[start] != signing->ranks.least) {
       // A lesser dart yields its word and was tried, or another start's first row is lesser.
@@ -137,8 +135,7 @@ static size_t next_start(const struct map *map, const uint16_t *beta0, size_t st
 }
 
 // The word lands in `out`, which no refusal can follow.
-static struct plain_signed sign(const struct map *map, const uint16_t *beta0,
-                                struct labelling *labelling, uint16_t *out) {
+static struct duftheim_signed sign(const struct map *map, const uint16_t *beta0, struct labelling *labelling, uint16_t *out) {
   size_t m = map->m;
   struct signing signing;
   begin_signing(&signing, map, beta0);
@@ -159,17 +156,17 @@ static struct plain_signed sign(const struct map *map, const uint16_t *beta0,
     spell_out(map, beta0, labelling, &signing);
   }
   memcpy(out, signing.word, map->n * m * sizeof out[0]);
-  return (struct plain_signed){0, 0, signing.start, symmetries(&signing, m)};
+  return (struct duftheim_signed){0, 0, signing.start, symmetries(&signing, m)};
 }
 
-struct plain_signed plain_signature(size_t n, size_t m, const uint16_t *table, size_t table_length,
-                                    uint16_t *out, size_t out_length) {
+struct duftheim_signed duftheim_signature(size_t n, size_t m, const uint16_t *table, size_t table_length, uint16_t *out,
+                                          size_t out_length) {
   struct map map = {n, m, table};
   uint16_t beta0[MOST_NUMBERS];
   struct labelling labelling;
-  struct plain_verdict verdict = judge(map, table_length, n * m, out_length, beta0, &labelling);
+  struct duftheim_verdict verdict = judge(map, table_length, n * m, out_length, beta0, &labelling);
   if (verdict.number != 0) {
-    return (struct plain_signed){verdict.number, verdict.place, 0, 0};
+    return (struct duftheim_signed){verdict.number, verdict.place, 0, 0};
   }
   return sign(&map, beta0, &labelling, out);
 }

@@ -38,8 +38,7 @@ enum order { LESSER, EQUAL, GREATER };
 
 // Labels from one start and compares its word with the table; left at the first number that
 // differs.
-static enum order compare_with_table(const struct map *map, const uint16_t *beta0, size_t start,
-                                     struct labelling *labelling) {
+static enum order compare_with_table(const struct map *map, const uint16_t *beta0, size_t start, struct labelling *labelling) {
   size_t n = map->n;
   visit(labelling, start);
   // The map is connected, so the queue never runs dry before all m darts are served.
@@ -66,8 +65,7 @@ static void tie(struct orbits *orbits, const uint16_t *queue, size_t m) {
 }
 
 // The table of an accepted map is its own signature where dart 1 yields it and none a lesser word.
-static bool is_own_signature(const struct map *map, const uint16_t *beta0,
-                             struct labelling *labelling) {
+static bool is_own_signature(const struct map *map, const uint16_t *beta0, struct labelling *labelling) {
   struct orbits orbits;
   begin_orbits(&orbits, map->m);
   size_t first_rank = rank(map, beta0, 1);
@@ -101,8 +99,7 @@ static bool is_good_alone(const uint8_t *record) {
   if (n < 1 || n > MOST_SEWINGS || m == 0 || length > MOST_NUMBERS) {
     return false;
   }
-  if (number_4(record) == 0 || record[ZERO_AT] != 0 ||
-      !filling_is_zero(record, WORD_AT + 2 * length)) {
+  if (number_4(record) == 0 || record[ZERO_AT] != 0 || !filling_is_zero(record, WORD_AT + 2 * length)) {
     return false;
   }
   uint16_t word[MOST_NUMBERS];
@@ -112,8 +109,7 @@ static bool is_good_alone(const uint8_t *record) {
   struct map map = {n, m, word};
   uint16_t beta0[MOST_NUMBERS];
   struct labelling labelling;
-  return judge(map, length, 0, 0, beta0, &labelling).number == 0 &&
-         is_own_signature(&map, beta0, &labelling);
+  return judge(map, length, 0, 0, beta0, &labelling).number == 0 && is_own_signature(&map, beta0, &labelling);
 }
 
 // ---- Records beside each other ----
@@ -156,10 +152,10 @@ static bool repeats(const uint8_t *bytes, const uint8_t *record) {
 }
 
 // The record of a die and of the map's signature; nothing is written where the map is refused.
-static struct plain_verdict make_record(uint32_t die, size_t n, size_t m, const uint16_t *table,
-                                        size_t table_length, uint8_t *record) {
+static struct duftheim_verdict make_record(uint32_t die, size_t n, size_t m, const uint16_t *table, size_t table_length,
+                                           uint8_t *record) {
   uint16_t word[MOST_NUMBERS];
-  struct plain_signed answer = plain_signature(n, m, table, table_length, word, MOST_NUMBERS);
+  struct duftheim_signed answer = duftheim_signature(n, m, table, table_length, word, MOST_NUMBERS);
   if (answer.number != 0) {
     return refused(answer.number, answer.place);
   }
@@ -175,7 +171,7 @@ static struct plain_verdict make_record(uint32_t die, size_t n, size_t m, const 
 
 // ---- The calls ----
 
-struct plain_verdict plain_drawer_check(size_t count, const uint8_t *bytes, size_t bytes_length) {
+struct duftheim_verdict duftheim_drawer_check(size_t count, const uint8_t *bytes, size_t bytes_length) {
   if (count > MOST_RECORDS || count * RECORD_BYTES > bytes_length) {
     return refused(13, 0);
   }
@@ -188,18 +184,18 @@ struct plain_verdict plain_drawer_check(size_t count, const uint8_t *bytes, size
   return accepted();
 }
 
-static struct plain_found not_found(struct plain_verdict why) {
-  return (struct plain_found){why.number, why.place, 0, 0};
+static struct duftheim_found not_found(struct duftheim_verdict why) {
+  return (struct duftheim_found){why.number, why.place, 0, 0};
 }
 
-struct plain_found plain_search(size_t n, size_t m, const uint16_t *table, size_t table_length,
-                                size_t count, const uint8_t *bytes, size_t bytes_length) {
+struct duftheim_found duftheim_search(size_t n, size_t m, const uint16_t *table, size_t table_length, size_t count,
+                                      const uint8_t *bytes, size_t bytes_length) {
   uint8_t wanted[RECORD_BYTES];
-  struct plain_verdict verdict = make_record(0, n, m, table, table_length, wanted);
+  struct duftheim_verdict verdict = make_record(0, n, m, table, table_length, wanted);
   if (verdict.number != 0) {
     return not_found(verdict);
   }
-  verdict = plain_drawer_check(count, bytes, bytes_length);
+  verdict = duftheim_drawer_check(count, bytes, bytes_length);
   if (verdict.number != 0) {
     return not_found(verdict);
   }
@@ -207,12 +203,12 @@ struct plain_found plain_search(size_t n, size_t m, const uint16_t *table, size_
   if (record == 0) {
     return not_found(refused(15, 0));
   }
-  return (struct plain_found){0, 0, number_4(bytes + (record - 1) * RECORD_BYTES), record};
+  return (struct duftheim_found){0, 0, number_4(bytes + (record - 1) * RECORD_BYTES), record};
 }
 
 // 16 to 18: what stands against a record as the next one of a good drawer.
-static struct plain_verdict judge_next(uint32_t die, const uint8_t *filed, size_t count,
-                                       const uint8_t *bytes, size_t bytes_length) {
+static struct duftheim_verdict judge_next(uint32_t die, const uint8_t *filed, size_t count, const uint8_t *bytes,
+                                          size_t bytes_length) {
   if (die == 0) {
     return refused(16, 0);
   }
@@ -230,19 +226,18 @@ static struct plain_verdict judge_next(uint32_t die, const uint8_t *filed, size_
   return accepted();
 }
 
-static struct plain_filed not_filed(struct plain_verdict why) {
-  return (struct plain_filed){why.number, why.place, 0};
+static struct duftheim_filed not_filed(struct duftheim_verdict why) {
+  return (struct duftheim_filed){why.number, why.place, 0};
 }
 
-struct plain_filed plain_file(uint32_t die, size_t n, size_t m, const uint16_t *table,
-                              size_t table_length, size_t count, uint8_t *bytes,
-                              size_t bytes_length) {
+struct duftheim_filed duftheim_file(uint32_t die, size_t n, size_t m, const uint16_t *table, size_t table_length, size_t count,
+                                    uint8_t *bytes, size_t bytes_length) {
   uint8_t filed[RECORD_BYTES];
-  struct plain_verdict verdict = make_record(die, n, m, table, table_length, filed);
+  struct duftheim_verdict verdict = make_record(die, n, m, table, table_length, filed);
   if (verdict.number != 0) {
     return not_filed(verdict);
   }
-  verdict = plain_drawer_check(count, bytes, bytes_length);
+  verdict = duftheim_drawer_check(count, bytes, bytes_length);
   if (verdict.number != 0) {
     return not_filed(verdict);
   }
@@ -251,5 +246,5 @@ struct plain_filed plain_file(uint32_t die, size_t n, size_t m, const uint16_t *
     return not_filed(verdict);
   }
   memcpy(bytes + count * RECORD_BYTES, filed, RECORD_BYTES);
-  return (struct plain_filed){0, 0, count + 1};
+  return (struct duftheim_filed){0, 0, count + 1};
 }

@@ -6,7 +6,7 @@
 
 #include <string.h>
 
-#include "plain.h"
+#include "../../include/duftheim.h"
 
 enum { MOST_SEWINGS = 4, MOST_NUMBERS = 1020 };
 
@@ -113,8 +113,7 @@ static inline void forget(struct labelling *labelling) {
 }
 
 // Leaves the labelling from dart 1 behind, as far as it came.
-static size_t dart_not_reached(const struct map *map, const uint16_t *beta0,
-                               struct labelling *labelling) {
+static size_t dart_not_reached(const struct map *map, const uint16_t *beta0, struct labelling *labelling) {
   visit(labelling, 1);
   for (size_t k = 0; k < labelling->length; k++) {
     size_t dart = labelling->queue[k];
@@ -132,18 +131,18 @@ static size_t dart_not_reached(const struct map *map, const uint16_t *beta0,
   return 0;
 }
 
-static struct plain_verdict refused(uint32_t number, size_t place) {
-  return (struct plain_verdict){number, place};
+static struct duftheim_verdict refused(uint32_t number, size_t place) {
+  return (struct duftheim_verdict){number, place};
 }
 
-static struct plain_verdict accepted(void) {
-  return (struct plain_verdict){0, 0};
+static struct duftheim_verdict accepted(void) {
+  return (struct duftheim_verdict){0, 0};
 }
 
 // Judges 1 to 9 in their order; `needed` is looked at only where n and m are in bounds. An accepted
 // map leaves its beta 0 behind and the labelling from dart 1.
-static struct plain_verdict judge(struct map map, size_t table_length, size_t needed,
-                                  size_t out_length, uint16_t *beta0, struct labelling *labelling) {
+static struct duftheim_verdict judge(struct map map, size_t table_length, size_t needed, size_t out_length, uint16_t *beta0,
+                                     struct labelling *labelling) {
   if (map.n < 1 || map.n > MOST_SEWINGS) {
     return refused(1, 0);
   }

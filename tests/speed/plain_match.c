@@ -17,8 +17,8 @@ static void write_word(const struct map *map, const struct labelling *labelling,
 
 // Labels from one start and says whether its word is the one wanted; left at the first number that
 // differs.
-static bool has_word(const struct map *map, const uint16_t *beta0, size_t start,
-                     struct labelling *labelling, const uint16_t *wanted) {
+static bool has_word(const struct map *map, const uint16_t *beta0, size_t start, struct labelling *labelling,
+                     const uint16_t *wanted) {
   size_t n = map->n;
   visit(labelling, start);
   // The map is connected, so the queue never runs dry before all m darts are served.
@@ -34,15 +34,15 @@ static bool has_word(const struct map *map, const uint16_t *beta0, size_t start,
   return true;
 }
 
-struct plain_verdict plain_match(size_t n, size_t m, const uint16_t *table, size_t table_length,
-                                 size_t second_n, size_t second_m, const uint16_t *second_table,
-                                 size_t second_table_length, uint16_t *out, size_t out_length) {
+struct duftheim_verdict duftheim_match(size_t n, size_t m, const uint16_t *table, size_t table_length, size_t second_n,
+                                       size_t second_m, const uint16_t *second_table, size_t second_table_length, uint16_t *out,
+                                       size_t out_length) {
   struct map first = {n, m, table};
   struct map second = {second_n, second_m, second_table};
   uint16_t beta0[MOST_NUMBERS];
   struct labelling from_first;
   struct labelling from_second;
-  struct plain_verdict verdict = judge(first, table_length, m, out_length, beta0, &from_first);
+  struct duftheim_verdict verdict = judge(first, table_length, m, out_length, beta0, &from_first);
   if (verdict.number != 0) {
     return verdict;
   }

@@ -16,13 +16,11 @@
 --     Spells, SpeltOut            it may be spelt out, and is
 --     Starting, Signs             the signature's run may start, and has come to its end
 --     Copies, Copied              numbers may be copied to an output, and are
---     Holding                     the starts of an accepted map may be tried
 --     Seeks, Sought               all starts may be tried against a word held, and the least that yields it is found
 --     Leads                       all starts may be tried against the word that start 1 yields
+--     Holding                     an accepted table may be held to its own signature
 --     HeldAs                      an array holds a table's numbers
 --     Images, Imaged              the images of a matching may be written, and are
---     imageIn g held              the least start that yields the word held, or 0
---     Shows, Showed               it may be sought and the matching written, and where there is one, it is
 -- Assumes nothing.
 use Prim.Native.Nat.{ℕ, _*_, _≤_, _<_}
 use mathlib.Core.Path.{_≡_}
@@ -192,13 +190,6 @@ pub record Copies (held output : List ℕ) (size : ℕ) : Type 0 where
 pub record Copied (held output : List ℕ) (size : ℕ) (output′ : List ℕ) : Type 0 where
   pub written : output′ ≡ take size held ++ drop size output
 
--- the starts of an accepted map may be tried: no dart has a label
-pub record Holding (g : Given) (back labels : List ℕ) : Type 0 where
-  pub shaped : Shaped g
-  pub taken : Accepted (mapOf g)
-  pub backs : back ≡ backsOf (mapOf g)
-  pub blank : labels ≡ replicate 1020 0
-
 -- all starts of an accepted map may be tried against a word that is held
 pub record Seeks (g : Given) (back labels queue held : List ℕ) : Type 0 where
   pub shaped : Shaped g
@@ -216,11 +207,8 @@ pub record Leads (g : Given) (back labels queue lead held : List ℕ) : Type 0 w
   pub first : word (mapOf g) 1 ≡ take (g .n * g .m) held
 
 -- the least start that yields the word held, or 0, and the queue of its labelling
-unfoldable pub imageIn : Given → List ℕ → ℕ
-imageIn g held = least (g .m) (yields (mapOf g) (take (g .n * g .m) held))
-
 pub record Sought (g : Given) (held : List ℕ) (r : ℕ) (queue′ : List ℕ) : Type 0 where
-  pub found : r ≡ imageIn g held
+  pub found : r ≡ least (g .m) (yields (mapOf g) (take (g .n * g .m) held))
   pub whole : 0 < r → take (g .m) queue′ ≡ labelling (mapOf g) r
   pub long-queue : length queue′ ≡ 1020
 
@@ -237,16 +225,12 @@ pub record Images (first second output : List ℕ) (m : ℕ) : Type 0 where
 pub record Imaged (first second output : List ℕ) (m : ℕ) (output′ : List ℕ) : Type 0 where
   pub written : output′ ≡ over (map (λ d. nth (take m second) (labelIn (take m first) d)) (upTo m)) output
 
--- the word held may be sought among the starts of a map, and the images of the first queue's darts written
-pub record Shows (g : Given) (back labels first held output : List ℕ) : Type 0 where
-  pub holding : Holding g back labels
-  pub long-word : length held ≡ 1020
-  pub images : (second : List ℕ) → length second ≡ 1020 → Images first second output (g .m)
-
--- they are written where a start yields it
-pub record Showed (g : Given) (first held output : List ℕ) (r : Bool) (output′ : List ℕ) : Type 0 where
-  pub told : r ≡ ltb 0 (imageIn g held)
-  pub written : output′ ≡ cond r (over (map (λ d. nth (labelling (mapOf g) (imageIn g held)) (labelIn (take (g .m) first) d)) (upTo (g .m))) output) output
+-- a table that is accepted may be held to its own signature
+pub record Holding (g : Given) (back labels : List ℕ) : Type 0 where
+  pub shaped : Shaped g
+  pub taken : Accepted (mapOf g)
+  pub backs : back ≡ backsOf (mapOf g)
+  pub blank : labels ≡ replicate 1020 0
 
 -- the first numbers of an array are those of the table
 pub record HeldAs (table held : List ℕ) : Type 0 where

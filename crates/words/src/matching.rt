@@ -1,7 +1,7 @@
 // The match of two maps, and the matching that it shows: dart 1 goes to the least dart of the second map that any takes it to.
 ghost use Rattle.maps.specs.Given.{lent};
 ghost use Rattle.words.specs.Match.{MatchesAs};
-ghost use Rattle.words.specs.Inside.{Seeks, Sought, Images, Imaged, Shows, Showed};
+ghost use Rattle.words.specs.Inside.{Seeks, Sought, Images, Imaged};
 use crate::engine::alike;
 use crate::engine::try_start;
 use crate::engine::wide;
@@ -42,30 +42,6 @@ fn show(first: &[u16; 1020], second: &[u16; 1020], output: &mut [u16], m: usize)
         output[wide(first[k]) - 1] = second[k];
         k += 1;
     }
-}
-
-// Dart 1's image is the least start of the second map that yields the word held. Where there is one, the images are written; the
-// first queue has the first map's darts in the order labelled.
-fn show_alike(
-    n: usize,
-    m: usize,
-    table: &[u16],
-    back: &[u16; 1020],
-    labels: &mut [u16; 1020],
-    first: &[u16; 1020],
-    word: &mut [u16; 1020],
-    output: &mut [u16],
-) -> bool
-    requires { ⌜ Shows (lent n m (now table)) (now back) (now labels) (now first) (now word) (now output) ⌝ }
-    ensures { λ r. ⌜ Showed (lent n m (now (table .entry))) (now (first .entry)) (now (word .entry)) (now (output .entry)) r (now (output .exit)) ⌝ }
-{
-    let mut second = [0u16; 1020];
-    let image = first_alike(n, m, table, back, labels, &mut second, word);
-    if image == 0 {
-        return false;
-    }
-    show(first, &second, output, m);
-    true
 }
 
 // The match of two dart tables, for whatever a caller hands in.
@@ -127,20 +103,14 @@ pub fn match_maps(
             place: 0,
         };
     }
-    if show_alike(
-        n2,
-        m2,
-        table2,
-        &back,
-        &mut labels,
-        &queue,
-        &mut word,
-        output,
-    ) {
-        return Judged::Passed;
+    let mut images = [0u16; 1020];
+    let image = first_alike(n2, m2, table2, &back, &mut labels, &mut images, &mut word);
+    if image == 0 {
+        return Judged::Refused {
+            number: 10,
+            place: 0,
+        };
     }
-    Judged::Refused {
-        number: 10,
-        place: 0,
-    }
+    show(&queue, &images, output, m);
+    Judged::Passed
 }

@@ -11,7 +11,7 @@ use Rattle.maps.specs.Given.{lent, mapOf}
 use Rattle.maps.proofs.Least.{Passed, passed-start, passed-turn, passed-found, passed-misses, least-is, none-least}
 use Rattle.maps.proofs.Accepted.{darts-most}
 use Rattle.words.specs.Words.{word, yields}
-use Rattle.words.specs.Inside.{sideOf, imageIn}
+use Rattle.words.specs.Inside.{sideOf}
 use Rattle.words.proofs.Racing.{tried-whole}
 use Rattle.words.proofs.Starts.{seeks-ready, same-yields, same-stays}
 use Rattle.words.proofs.matching.first_alike.Statement.{statement}
@@ -73,7 +73,7 @@ yielded c =
     (c .alike .ensures)
 
 returns : tie.Need-returns Inv-loop μ-loop
-unfolding mapOf imageIn
+unfolding mapOf
 returns c =
     let l = in-loop (tried (c .before)) .before in
     let inv = l .loop .inv in
@@ -101,7 +101,7 @@ loop-again c =
     }
 
 returns-2 : tie.Need-returns-2 Inv-loop μ-loop
-unfolding mapOf imageIn
+unfolding mapOf
 returns-2 c =
     let inv = c .before .loop .inv in
     record {

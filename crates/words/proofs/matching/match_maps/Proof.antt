@@ -2,13 +2,12 @@
 -- are tried against it. Assumes nothing.
 use Prim.Native.Nat.{ℕ, _+_, _*_, _≤_, _<_}
 use mathlib.Core.Path.{_≡_, refl, sym, ap, ap₂, _∙_}
-use mathlib.Core.Bool.{Bool, true, false, cond}
+use mathlib.Core.Bool.{true, false}
 use mathlib.Core.List.{List, map}
 use mathlib.Core.Logic.{inl, inr}
 use native.Mathlib.Omega.{arith}
 use native.Mathlib.Nat.{pos-of-ne-zero, le-refl}
 use borrow.Author.Needs.{needs}
-use borrow.Author.Tests.{ltb-true, ltb-false}
 use lib.ListN.{length, take, replicate, length-replicate}
 use Rattle.maps.specs.Least.{nth, upTo, least}
 use Rattle.maps.specs.Map.{Map, IsDart}
@@ -16,7 +15,6 @@ use Rattle.maps.specs.Accepted.{Accepted}
 use Rattle.maps.specs.Given.{Given, lent, mapOf}
 use Rattle.maps.specs.Verdict.{Verdict, accepts, refused}
 use Rattle.maps.specs.declared.Output.the-variants as output
-use Rattle.maps.specs.declared.Judged.the-variants.{Refused}
 use Rattle.maps.proofs.Accepted.{darts-most}
 use Rattle.maps.proofs.Answer.{passed-accepts, refused-accepts, refused-is, refused-low}
 use Rattle.labels.specs.Queue.{labelIn, labelling}
@@ -26,9 +24,9 @@ use Rattle.labels.proofs.Reached.{labelling-numbers}
 use Rattle.labels.proofs.Judging.{table-clear, table-whole, check-whole}
 use Rattle.labels.proofs.Theorems.{check-numbers}
 use Rattle.words.specs.Words.{word, lesser, yields, byLabels}
-use Rattle.words.specs.Match.{imageOfFirst, shown, matchAnswer, MatchesAs}
+use Rattle.words.specs.Match.{imageOfFirst, shown}
 use Rattle.words.specs.Sign.{over}
-use Rattle.words.specs.Inside.{leavesAt, Images, imageIn, Tried}
+use Rattle.words.specs.Inside.{leavesAt, Images, Tried}
 use Rattle.words.specs.declared.engine.Side.{Side}
 use Rattle.words.specs.declared.engine.Side.the-variants.{Less}
 use Rattle.words.proofs.Words.{length-word}
@@ -67,13 +65,12 @@ spelt {g} a {held′ = held′} {side = side} t =
       order = w .whole (rw side-is refl);
     }
 
--- the images of as many darts may be written
-images-ready : {g : Given} → Accepted (mapOf g) → {queue held images out : List ℕ} {m : ℕ} → g .m ≡ m → Spelt g queue held → length queue ≡ 1020 → length images ≡ 1020 → g .m ≤ length out → Images queue images out m
+-- the images may be written
+images-ready : {g : Given} → Accepted (mapOf g) → {queue held images out : List ℕ} → Spelt g queue held → length queue ≡ 1020 → length images ≡ 1020 → g .m ≤ length out → Images queue images out (g .m)
 unfolding mapOf
-images-ready {g} a {queue} same s long-queue long-images room =
+images-ready {g} a {queue} s long-queue long-images room =
     let n = labelling-numbers a 1 (first-dart a) in
-    rw (← same)
-    (record {
+    record {
       few = darts-most (a .bounds);
       room = room;
       long-first = long-queue;
@@ -81,33 +78,7 @@ images-ready {g} a {queue} same s long-queue long-images room =
       dart-at = λ k low high. rw (s .order) (n .dart-at k low high);
       label-of = λ k low high. rw (s .order) (n .label-of k low high);
       label-low = λ d low high. rw (s .order) (n .label-low d (low, high), n .label-high d);
-    })
-
--- the start of the second map that yields the first's word is the image of dart 1
-module _ (a b : Given) {queue held : List ℕ} (s : Spelt a queue held) (n-same : a .n ≡ b .n) (m-same : a .m ≡ b .m) where
-  image-is : imageIn b held ≡ imageOfFirst (mapOf a) (mapOf b)
-  unfolding imageIn imageOfFirst mapOf
-  image-is =
-      ap (λ (w : List ℕ). least (b .m) (yields (mapOf b) w))
-      (ap (λ (k : ℕ). take k held) (sym (ap₂ (λ (x y : ℕ). x * y) n-same m-same)) ∙ s .numbers)
-
-  -- and the images written are those of the matching shown
-  images-are : map (λ d. nth (labelling (mapOf b) (imageIn b held)) (labelIn (take (b .m) queue) d)) (upTo (b .m)) ≡ shown (mapOf a) (mapOf b)
-  unfolding shown byLabels mapOf
-  images-are =
-      ap (λ (m : ℕ). map (λ d. nth (labelling (mapOf b) (imageIn b held)) (labelIn (take m queue) d)) (upTo m)) (sym m-same)
-      ∙ ap₂ (λ (q p : List ℕ). map (λ d. nth q (labelIn p d)) (upTo (a .m))) (ap (labelling (mapOf b)) image-is) (s .order)
-
--- what is written, and what is left as it was
-chosen : {r : Bool} (x y : List ℕ) {out : List ℕ} → out ≡ cond r x y → r ≡ true → out ≡ x
-chosen x y is taken = is ∙ ap (λ (r : Bool). cond r x y) taken
-
-left-out : {r : Bool} (x y : List ℕ) {out : List ℕ} → out ≡ cond r x y → r ≡ false → out ≡ y
-left-out x y is left = is ∙ ap (λ (r : Bool). cond r x y) left
-
--- a refusal, where the output is found as it was
-refused-still : {a b : Given} {out out′ : List ℕ} → out′ ≡ out → matchAnswer a b (length out) ≡ refused 10 0 → MatchesAs a b out (Refused 10 0) out′
-refused-still same is = rw same (matches-refused 10 0 (omega arith) is)
+    }
 
 -- the places of this proof
 abbrev start : tie.After-judge → tie.Start
@@ -125,11 +96,11 @@ ran c = c .before .before .before
 abbrev judged2 : tie.After-enum-told2 → tie.After-judge2
 judged2 c = c .before .before
 
-abbrev told2 : tie.After-word2 → tie.After-enum-told2
-told2 c = c .before .before .before .before .before .before
+abbrev told2 : tie.After-first-alike → tie.After-enum-told2
+told2 c = c .before .before .before .before .before .before .before
 
-abbrev shown-at : tie.After-slice-known2 → tie.After-show-alike
-shown-at c = c .before .before
+abbrev sought : tie.After-show → tie.After-first-alike
+sought c = c .before .before .before .before .before
 
 abbrev from : tie.After-judge2 → tie.Start
 from c = start (judged (told (ran c)))
@@ -181,7 +152,7 @@ try-start-requires c κs =
     }
 
 -- a refusal of the second map has a number up to 9
-add-fits : tie.Need-add-t29
+add-fits : tie.Need-add-t31
 unfolding CheckNumbers checkAnswer refused
 add-fits c =
     let j = c .before .before .before in
@@ -218,62 +189,77 @@ cleared : (t : tie.After-enum-told2) → let s = from (judged2 t) in Cleared (fi
 cleared t = match-clear _ _ _ (table-whole _ _ (accepting (told (ran (judged2 t))))) (check-whole _ (accepting2 t))
 
 -- what the first run has left
-abbrev held-at : tie.After-enum-told2 → List ℕ
-held-at t = ran (judged2 t) .try-start .last .1 .1 .1 .1 .1 .1 .0
-
-spelt-here : (t : tie.After-enum-told2) → Spelt (first (from (judged2 t))) (ran (judged2 t) .try-start .last .1 .1 .1 .1 .1 .0) (held-at t)
+spelt-here : (t : tie.After-enum-told2) →
+    let r = ran (judged2 t) in
+    Spelt (first (from (judged2 t))) (r .try-start .last .1 .1 .1 .1 .1 .0) (r .try-start .last .1 .1 .1 .1 .1 .1 .0)
 spelt-here t = spelt (cleared t .first) (ran (judged2 t) .try-start .ensures)
 
--- the maps are of one size
-one-size : (c : tie.After-word2) →
-    let s = from (judged2 (told2 c)) in
-    (s .args .n ≡ s .args .n2) × (s .args .m ≡ s .args .m2)
-one-size c = let e = c .before .before .before .before in (e .before .if1 .left, e .if2 .left)
-
-show-alike-requires : tie.Need-show-alike-requires
-show-alike-requires c κs =
-    let w = c .before in
-    let t = told2 w in
+first-alike-requires : tie.Need-first-alike-requires
+first-alike-requires c κs =
+    let t = c .before .before .before .before .before .before in
     let answer = judged2 t .judge2 .ensures in
     record {
-      holding = record { shaped = cleared t .shaped′; taken = cleared t .second; backs = answer .answer .backs ∙ simp (unlent2 t); blank = answer .blank };
+      shaped = cleared t .shaped′;
+      taken = cleared t .second;
+      backs = answer .answer .backs ∙ simp (unlent2 t);
+      blank = answer .blank;
+      long-queue = length-replicate {A = ℕ} 1020 0;
       long-word = spelt-here t .long;
-      images = λ second long. images-ready (cleared t .first) (one-size w .1) (spelt-here t) (ran (judged2 t) .try-start .ensures .long-queue) long (cleared t .roomy);
     }
 
--- dart 1's image, and whether there is one
-module _ (c : tie.After-slice-known2) where
-  abbrev w : tie.After-word2
-  w = shown-at c .before .before
-
-  abbrev t : tie.After-enum-told2
-  t = told2 w
-
-  abbrev s : tie.Start
-  s = from (judged2 t)
-
-  image : imageIn (second s) (held-at t) ≡ imageOfFirst (mapOf (first s)) (mapOf (second s))
-  image = image-is (first s) (second s) (spelt-here t) (one-size w .0) (one-size w .1)
+-- the start found is the image of dart 1
+image-is : (c : tie.After-first-alike) →
+    let s = from (judged2 (told2 c)) in
+    c .first-alike .result ≡ imageOfFirst (mapOf (first s)) (mapOf (second s))
+unfolding imageOfFirst mapOf
+image-is c =
+    let t = told2 c in
+    let s = from (judged2 t) in
+    let n-same = c .before .before .before .before .before .before .if1 .left in
+    let m-same = c .before .before .before .before .before .if2 .left in
+    c .first-alike .ensures .found
+    ∙ ap (λ (w : List ℕ). least (s .args .m2) (yields (mapOf (second s)) w))
+    (ap (λ (k : ℕ). take k (ran (judged2 t) .try-start .last .1 .1 .1 .1 .1 .1 .0)) (sym (ap₂ (λ (x y : ℕ). x * y) n-same m-same)) ∙ spelt-here t .numbers)
 
 returns-5 : tie.Need-returns-5
 returns-5 c =
-    let k = c .before in
-    let e = shown-at k .show-alike .ensures in
-    let start : 0 < imageIn (second (s k)) (held-at (t k)) = ltb-true 0 _ (sym (e .told) ∙ c .if3 .taken) in
-    let some = rw (image k) at start in
-    matches-passed
-    (match-passed (first (s k)) (second (s k)) (room (s k)) (accepting (told (ran (judged2 (t k))))) (accepting2 (t k)) (one-size (w k) .0) (one-size (w k) .1) some)
-    (chosen _ _ (e .written) (c .if3 .taken)
-    ∙ ap (λ (l : List ℕ). over l (s k .args .output .now)) (images-are (first (s k)) (second (s k)) (spelt-here (t k)) (one-size (w k) .0) (one-size (w k) .1)))
+    let f = c .before in
+    let t = told2 f in
+    let s = from (judged2 t) in
+    let n-same = f .before .before .before .before .before .before .if1 .left in
+    let m-same = f .before .before .before .before .before .if2 .left in
+    matches-refused 10 0 (omega arith)
+    (match-none (first s) (second s) (room s) (accepting (told (ran (judged2 t)))) (accepting2 t) n-same m-same (sym (image-is f) ∙ c .if3 .taken))
+
+show-requires : tie.Need-show-requires
+show-requires c κs =
+    let f = c .before .before .before .before in
+    let t = told2 f in
+    images-ready (cleared t .first) (spelt-here t) (ran (judged2 t) .try-start .ensures .long-queue) (f .first-alike .ensures .long-queue) (cleared t .roomy)
+
+-- the images written are those of the matching shown
+images-are : (a b : Given) (images : List ℕ) {queue held : List ℕ} {r : ℕ} → Spelt a queue held → a .m ≡ b .m → take (b .m) images ≡ labelling (mapOf b) r → r ≡ imageOfFirst (mapOf a) (mapOf b) →
+    map (λ d. nth (take (a .m) images) (labelIn (take (a .m) queue) d)) (upTo (a .m)) ≡ shown (mapOf a) (mapOf b)
+unfolding shown byLabels mapOf
+images-are a b images s same whole is =
+    let here : take (a .m) images ≡ labelling (mapOf b) (imageOfFirst (mapOf a) (mapOf b)) =
+    ap (λ (k : ℕ). take k images) same ∙ whole ∙ ap (labelling (mapOf b)) is in
+    ap₂ (λ (q p : List ℕ). map (λ d. nth q (labelIn p d)) (upTo (a .m))) here (s .order)
 
 returns-6 : tie.Need-returns-6
 returns-6 c =
-    let k = c .before in
-    let e = shown-at k .show-alike .ensures in
-    let start = imageIn (second (s k)) (held-at (t k)) in
-    let none : start ≡ 0 = omega (arith, ltb-false 0 start (sym (e .told) ∙ c .if3 .left)) in
-    refused-still (left-out _ _ (e .written) (c .if3 .left))
-    (match-none (first (s k)) (second (s k)) (room (s k)) (accepting (told (ran (judged2 (t k))))) (accepting2 (t k)) (one-size (w k) .0) (one-size (w k) .1) (sym (image k) ∙ none))
+    let shows = c .before .before in
+    let f = sought shows in
+    let t = told2 f in
+    let s = from (judged2 t) in
+    let n-same = f .before .before .before .before .before .before .if1 .left in
+    let m-same = f .before .before .before .before .before .if2 .left in
+    let found = pos-of-ne-zero (shows .before .before .before .before .if3 .left) in
+    let some : 0 < imageOfFirst (mapOf (first s)) (mapOf (second s)) = rw (image-is f) at found in
+    matches-passed
+    (match-passed (first s) (second s) (room s) (accepting (told (ran (judged2 t)))) (accepting2 t) n-same m-same some)
+    (shows .show .ensures .written
+    ∙ ap (λ (l : List ℕ). over l (s .args .output .now)) (images-are (first s) (second s) _ (spelt-here t) m-same (f .first-alike .ensures .whole found) (image-is f)))
 
 pub match-maps-spec : {M : Type 1} → statement M
 match-maps-spec =
@@ -291,8 +277,8 @@ match-maps-spec =
     (λ c. search needs)
     returns-3
     returns-4
-    show-alike-requires
-    (λ c. search needs)
+    first-alike-requires
     returns-5
+    show-requires
     (λ c. search needs)
     returns-6)

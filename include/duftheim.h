@@ -28,7 +28,7 @@
                  darts, 0.1 to 0.4 million for most layouts of the largest size, rings, grids and tori among them, and 13
                  million for the slowest layout tried, a ring of 510 darts with one mark; for a match at most 37 million. A drawer
                  check judges every record, and so do search and filing each time: 73 million for 1,024 random layouts of 258
-                 darts on the mean, 98 million for rings of 1 to 1,020 darts, but 380 million for 64 rings with marks, the slowest
+                 darts on the mean, 97 million for rings of 1 to 1,020 darts, but 380 million for 64 rings with marks, the slowest
                  drawer tried. docs/SPEED.md has all figures.
      Answers     are handed back by value. The bytes between the members of a struct are not written: compare members.
 

@@ -27,7 +27,7 @@ use Rattle.maps.specs.Least.{nth, least, upTo}
 use Rattle.maps.specs.Map.{Map, IsDart}
 use Rattle.maps.specs.Accepted.{Accepted}
 use Rattle.maps.specs.Matching.{Matching, Matched}
-use Rattle.maps.specs.Given.{Given, mapOf, Shaped}
+use Rattle.maps.specs.Given.{Given, mapOf}
 use Rattle.maps.specs.Verdict.{Verdict, accepted, refused, accepts, unless, inOrder, ofSecond}
 use Rattle.maps.specs.Lines.{Shows, here, on, none, plain}
 use Rattle.maps.specs.Rules.{judgeOutput}
@@ -209,10 +209,8 @@ matches-only a b out r s o p x y = (x .answer ∙ sym (y .answer), x .written �
 
 -- what the two tables are once they have passed
 pub record Cleared (a b : Given) (room : ℕ) : Type 0 where
-  pub shaped : Shaped a
   pub first : Accepted (mapOf a)
   pub roomy : a .m ≤ room
-  pub shaped′ : Shaped b
   pub second : Accepted (mapOf b)
 
 pub match-clear : (a b : Given) (room : ℕ) → tableAnswer (Images room) a ≡ accepted → checkAnswer b ≡ accepted → Cleared a b room
@@ -221,10 +219,8 @@ match-clear a b room first second =
     let c = table-clear (Images room) a first in
     let d = table-clear _ b second in
     record {
-      shaped = c .1;
       first = c .2;
       roomy = leb-true (a .m) room (sym (unless-accepts _ 4 0 (omega arith)) ∙ ap accepts (c .0));
-      shaped′ = d .1;
       second = d .2;
     }
 

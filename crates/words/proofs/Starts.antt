@@ -4,6 +4,7 @@
 --                                        how each comes out
 --     lesser-less, lesser-same, lesser-greater
 --                                        which of the two is the lesser
+--     judged-usable                      what the judge has passed may be used
 --     seeks-ready                        each start may be tried against a word that is held
 --     same-stays                         a start that comes out the same is not left
 --     same-yields, less-told             what a start that came out so says of its word
@@ -20,11 +21,17 @@ use Rattle.maps.specs.Least.{nth}
 use Rattle.maps.specs.Map.{Map, IsDart, sew}
 use Rattle.maps.specs.Given.{Given, placeOf, mapOf}
 use Rattle.maps.specs.Accepted.{Accepted}
+use Rattle.maps.specs.Verdict.{accepts}
+use Rattle.maps.specs.declared.Output.{Output}
+use Rattle.maps.specs.declared.Judged.{Judged}
 use Rattle.maps.proofs.Least.{Tested, passes, fails, tested, true-not-false, nth-suc}
 use Rattle.maps.proofs.Accepted.{darts-most}
 use Rattle.labels.specs.Queue.{labelIn, labelling}
+use Rattle.labels.specs.Judging.{tableAnswer, Judges}
+use Rattle.labels.proofs.Judging.{table-clear, table-whole}
 use Rattle.labels.proofs.Reached.{labelling-numbers}
 use Rattle.words.specs.Words.{word, same, less, lesser, yields}
+use Rattle.words.specs.FirstRow.{Usable}
 use Rattle.words.specs.Inside.{sideOf, isLess, isSame, leavesAt, Ready, Seeks}
 use Rattle.words.specs.declared.engine.Side.{Side}
 use Rattle.words.specs.declared.engine.Side.the-variants.{Less, Same, Greater}
@@ -32,14 +39,18 @@ use Rattle.words.proofs.Words.{length-word, nth-word}
 use Rattle.words.proofs.Order.{same-equal, equal-same, less-irreflexive, less-transitive, before-less, Compared, before, equal, after, compared, yields-word, word-yields}
 use Rattle.words.proofs.Lexicographic.{less-at}
 
+-- what the judge has passed may be used
+pub judged-usable : (o : Output) (g : Given) {r : Judged} {back labels : List ℕ} → Judges o g r back labels → accepts (tableAnswer o g) ≡ true → Usable g back
+judged-usable o g j passed =
+    let c = table-clear o g (table-whole o g passed) in
+    record { shaped = c .1; taken = c .2; backs = j .answer .backs ∙ simp passed }
+
 -- each start may be tried against a word that is held, with what the last one left
 pub seeks-ready : {g : Given} {back labels₀ queue₀ held₀ labels queue held : List ℕ} {d : ℕ} → Seeks g back labels₀ queue₀ held₀ → IsDart (mapOf g) d →
     labels ≡ replicate 1020 0 → length queue ≡ 1020 → held ≡ held₀ → Ready g back labels queue held d (g .m)
 seeks-ready {g} s dart blank long-queue firm =
     record {
-      shaped = s .shaped;
-      taken = s .taken;
-      backs = s .backs;
+      usable = s .usable;
       dart = dart;
       some-rows = le-refl (g .m);
       blank = blank;

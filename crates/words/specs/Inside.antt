@@ -30,14 +30,13 @@ use lib.Dec.{ltb}
 use lib.ListN.{length, getD, set, take, drop, replicate}
 use Rattle.maps.specs.Least.{nth, upTo, least}
 use Rattle.maps.specs.Map.{Map, IsDart}
-use Rattle.maps.specs.Accepted.{Accepted}
-use Rattle.maps.specs.Given.{Given, mapOf, Shaped}
-use Rattle.maps.specs.Answer.{backsOf}
+use Rattle.maps.specs.Given.{Given, mapOf}
 use Rattle.labels.specs.Queue.{labelIn, visit, labelling}
 use Rattle.labels.specs.Inside.{DartsOnce, Holds}
 use Rattle.words.specs.Words.{word, same, less, lesser, signature, yields, start, symmetries}
 use Rattle.words.specs.Sign.{over}
 use Rattle.words.specs.Forest.{joinedAll, JoinsAll}
+use Rattle.words.specs.FirstRow.{Usable}
 use Rattle.words.specs.declared.engine.Side.{Side}
 use Rattle.words.specs.declared.engine.Side.the-variants.{Less, Same, Greater}
 use Rattle.words.specs.declared.engine.Labelling.{Labelling}
@@ -92,9 +91,7 @@ front M d rows = take (rows * M .dim) (word M d)
 
 -- so many rows of a start may be tried: no dart has a label
 pub record Ready (g : Given) (back labels queue held : List ℕ) (d rows : ℕ) : Type 0 where
-  pub shaped : Shaped g
-  pub taken : Accepted (mapOf g)
-  pub backs : back ≡ backsOf (mapOf g)
+  pub usable : Usable g back
   pub dart : IsDart (mapOf g) d
   pub some-rows : rows ≤ g .m
   pub blank : labels ≡ replicate 1020 0
@@ -168,9 +165,7 @@ pub record SpeltOut (g : Given) (s rows : ℕ) (labels′ queue′ held′ : Lis
 
 -- all starts of an accepted map may be tried; above all labels stands what is held
 pub record Starting (g : Given) (back labels held : List ℕ) : Type 0 where
-  pub shaped : Shaped g
-  pub taken : Accepted (mapOf g)
-  pub backs : back ≡ backsOf (mapOf g)
+  pub usable : Usable g back
   pub blank : labels ≡ replicate 1020 0
   pub above : held ≡ replicate 1020 65535
 
@@ -192,9 +187,7 @@ pub record Copied (held output : List ℕ) (size : ℕ) (output′ : List ℕ) :
 
 -- all starts of an accepted map may be tried against a word that is held
 pub record Seeks (g : Given) (back labels queue held : List ℕ) : Type 0 where
-  pub shaped : Shaped g
-  pub taken : Accepted (mapOf g)
-  pub backs : back ≡ backsOf (mapOf g)
+  pub usable : Usable g back
   pub blank : labels ≡ replicate 1020 0
   pub long-queue : length queue ≡ 1020
   pub long-word : length held ≡ 1020
@@ -227,9 +220,7 @@ pub record Imaged (first second output : List ℕ) (m : ℕ) (output′ : List �
 
 -- a table that is accepted may be held to its own signature
 pub record Holding (g : Given) (back labels : List ℕ) : Type 0 where
-  pub shaped : Shaped g
-  pub taken : Accepted (mapOf g)
-  pub backs : back ≡ backsOf (mapOf g)
+  pub usable : Usable g back
   pub blank : labels ≡ replicate 1020 0
 
 -- the first numbers of an array are those of the table

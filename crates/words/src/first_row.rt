@@ -1,7 +1,7 @@
 // The first row of a start's word, read off the start's own sewings: a start that comes out greater there need not be tried.
 ghost use mathlib.Core.Path.{_≡_};
 ghost use Rattle.maps.specs.Given.{lent, mapOf};
-ghost use Rattle.words.specs.FirstRow.{firstLabel, rankOf, Rows, Ranks, LeastRank, passesOver};
+ghost use Rattle.words.specs.FirstRow.{firstLabel, rankOf, Usable, Ranks, LeastRank, passesOver};
 use crate::engine::wide;
 
 // The label of β1(d) in the labelling from d, in which β0(d) is met before it.
@@ -41,7 +41,7 @@ pub(crate) fn rank(n: usize, m: usize, table: &[u16], back: &[u16; 1020], d: usi
 
 // The least rank of all starts.
 pub(crate) fn least_rank(n: usize, m: usize, table: &[u16], back: &[u16; 1020]) -> usize
-    requires { ⌜ Rows (lent n m (now table)) (now back) ⌝ }
+    requires { ⌜ Usable (lent n m (now table)) (now back) ⌝ }
     ensures { λ r. ⌜ LeastRank (mapOf (lent n m (now (table .entry)))) r ⌝ }
 {
     let mut least = rank(n, m, table, back, 1);

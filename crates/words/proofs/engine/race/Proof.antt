@@ -89,7 +89,7 @@ abbrev map-of : Start → Map
 map-of s = let a = s .args in mapOf (lent (a .n) (a .m) (a .table .now))
 
 few : (s : Start) → s .args .m ≤ 1020
-few s = darts-most (s .pre .shaped .bounds)
+few s = darts-most (s .pre .usable .shaped .bounds)
 
 -- the rows are the map's
 most : (s : Start) → s .args .rows ≤ map-of s .darts
@@ -108,12 +108,12 @@ inside s = (s .pre .dart .0, omega (arith, s .pre .dart .1, few s))
 labels-holds : tie.Need-labels-holds Inv-loop μ-loop Inv-labels μ-labels
 labels-holds c =
     let s = c .before in
-    rw (s .pre .blank) (serving-start (s .pre .taken) _ (s .pre .dart) (s .args .rows) (s .args .firm) (s .args .queue .now) _ (s .pre .long-queue))
+    rw (s .pre .blank) (serving-start (s .pre .usable .taken) _ (s .pre .dart) (s .args .rows) (s .args .firm) (s .args .queue .now) _ (s .pre .long-queue))
 
 -- the word's array is long enough for the word
 fits : (s : Start) → length (front (map-of s) (s .args .d) (s .args .rows)) ≤ length (s .args .word .now)
 unfolding mapOf
-fits s = omega (arith, length-front (s .pre .taken) _ (s .pre .dart) (s .args .rows) (most s), mul-le-mul-right (s .args .n) (most s), mul-comm (s .args .m) (s .args .n), s .pre .shaped .bounds .table-most, s .pre .long-word)
+fits s = omega (arith, length-front (s .pre .usable .taken) _ (s .pre .dart) (s .args .rows) (most s), mul-le-mul-right (s .args .n) (most s), mul-comm (s .args .m) (s .args .n), s .pre .usable .shaped .bounds .table-most, s .pre .long-word)
 
 -- a dart is served only where there are as many
 turn : (c : tie.In-labels Inv-loop μ-loop Inv-labels μ-labels) → c .before .labels .k < 1020
@@ -127,7 +127,7 @@ turn-of : (c : tie.In-labels Inv-loop μ-loop Inv-labels μ-labels) →
     DartTurn (map-of (start l)) (a .d) (a .rows) (a .firm) (a .word .now) (v .labels) (v .queue) (v .word) (v .labelling .given) (v .side) (v .p) (v .k)
 turn-of c =
     let s = start (c .before) in
-    record { taken = s .pre .taken; dart = s .pre .dart; most = most s; fits = fits s; so-far = c .before .labels .inv; turn = c .labels-test .taken }
+    record { taken = s .pre .usable .taken; dart = s .pre .dart; most = most s; fits = fits s; so-far = c .before .labels .inv; turn = c .labels-test .taken }
 
 -- what is read from the queue is the dart whose turn it is
 served-is : (c : Wide) →
@@ -151,7 +151,7 @@ before-is c =
     let w = read c in
     let s = start (in-labels w .before) in
     c .wide2 .ensures
-    ∙ ap (λ (l : List ℕ). getD l (w .wide .result - 1) 0) (s .pre .backs)
+    ∙ ap (λ (l : List ℕ). getD l (w .wide .result - 1) 0) (s .pre .usable .backs)
     ∙ backs-sew _ (w .wide .result) (served-dart w) (served-few w .1)
     ∙ ap (sew _ 0) (served-is w)
 
@@ -159,15 +159,15 @@ before-is c =
 in-the-row : (c : Wide) (i : ℕ) →
     let a = start (in-labels c .before) .args in
     i < a .n → (c .wide .result - 1) * a .n + i < length (a .table .now)
-in-the-row c i below = in-row (start (in-labels c .before) .pre .shaped) (c .wide .result) i (served-dart c) below
+in-the-row c i below = in-row (start (in-labels c .before) .pre .usable .shaped) (c .wide .result) i (served-dart c) below
 
 row-fits : (c : Wide) (i : ℕ) →
     let a = start (in-labels c .before) .args in
     i < a .n → (c .wide .result - 1) * a .n + i < 1020
-row-fits c i below = let shaped = start (in-labels c .before) .pre .shaped in omega (arith, in-the-row c i below, shaped .long, shaped .bounds .table-most)
+row-fits c i below = let shaped = start (in-labels c .before) .pre .usable .shaped in omega (arith, in-the-row c i below, shaped .long, shaped .bounds .table-most)
 
 mul-row : tie.Need-mul-row Inv-loop μ-loop Inv-labels μ-labels
-mul-row c = let w = read (c .before) in omega (arith, row-fits w 0 (start (in-labels w .before) .pre .shaped .bounds .dim-least))
+mul-row c = let w = read (c .before) in omega (arith, row-fits w 0 (start (in-labels w .before) .pre .usable .shaped .bounds .dim-least))
 
 loop-holds : tie.Need-loop-holds Inv-loop μ-loop Inv-labels μ-labels
 loop-holds c = rowing-start (turn-of (in-labels (read (c .before)))) (before-is (c .before)) (c .meet .ensures)
@@ -192,7 +192,7 @@ entry-is c =
     let t = in-loop c in
     let w = wide-of t in
     c .wide3 .ensures
-    ∙ row-sew (start (in-labels w .before) .pre .shaped) (w .wide .result) (t .before .loop .i) (served-dart w) (t .loop-test .taken)
+    ∙ row-sew (start (in-labels w .before) .pre .usable .shaped) (w .wide .result) (t .before .loop .i) (served-dart w) (t .loop-test .taken)
     ∙ ap (sew _ (suc (t .before .loop .i))) (served-is w)
 
 -- in a turn the number's place is in the word
@@ -220,7 +220,7 @@ unfolding mapOf
 returns c =
     let s = start (c .before) in
     let inv = c .before .labels .inv in
-    let taken = s .pre .taken in
+    let taken = s .pre .usable .taken in
     let to-darts = taken .open-map .to-darts in
     let all = judged-all taken (s .pre .dart) (most s) inv (c .labels-test .left) in
     let k = c .before .labels .k in
@@ -241,7 +241,7 @@ returns-2 c =
     let gone = sym (judged .leaves .ensures) ∙ c .if1 .taken in
     let held = row-holds (number-of t) (entry-is (m .before)) (m .meet2 .ensures) in
     record {
-      came = ended-outcome (s .pre .taken) (s .pre .dart) (most s) (rowing-left (number-of t) (entry-is (m .before)) (m .meet2 .ensures) (judged .before .weigh .ensures) gone);
+      came = ended-outcome (s .pre .usable .taken) (s .pre .dart) (most s) (rowing-left (number-of t) (entry-is (m .before)) (m .meet2 .ensures) (judged .before .weigh .ensures) gone);
       good = rw (held .so-far) (row-once (number-of t));
       holds = holds-own held;
       whole = λ on _. absurd (true-not-false gone on);

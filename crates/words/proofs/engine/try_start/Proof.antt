@@ -24,7 +24,7 @@ forget-requires : tie.Need-forget-requires
 unfolding mapOf
 forget-requires c κs =
     let raced = c .before .before .race .ensures in
-    let most = darts-most (start (c .before .before) .pre .shaped .bounds) in
+    let most = darts-most (start (c .before .before) .pre .usable .shaped .bounds) in
     record {
       holds = raced .holds;
       inside = λ k low high.
@@ -44,7 +44,7 @@ returns c =
       long-queue = raced .holds .long-queue;
       whole = λ on all-rows.
           let is = raced .whole on all-rows in
-          taken-all _ _ _ _ is (ap length (sym is) ∙ holds-length (raced .holds)) (labelling-numbers (s .pre .taken) _ (s .pre .dart) .long);
+          taken-all _ _ _ _ is (ap length (sym is) ∙ holds-length (raced .holds)) (labelling-numbers (s .pre .usable .taken) _ (s .pre .dart) .long);
     }
 
 pub try-start-spec : {M : Type 1} → statement M

@@ -50,7 +50,7 @@ at-loop c = c .before .before
 
 rank-requires : tie.Need-rank-requires Inv-loop μ-loop
 unfolding mapOf
-rank-requires c κs = let s = c .before in record { rows = s .pre; dart = (omega arith, s .pre .shaped .bounds .darts-least) }
+rank-requires c κs = let s = c .before in record { usable = s .pre; dart = (omega arith, s .pre .shaped .bounds .darts-least) }
 
 loop-holds : tie.Need-loop-holds Inv-loop μ-loop
 unfolding mapOf
@@ -68,7 +68,7 @@ loop-holds c =
 
 rank-requires-2 : tie.Need-rank-requires-2 Inv-loop μ-loop
 unfolding mapOf
-rank-requires-2 c κs = record { rows = start (c .before) .pre; dart = (omega arith, omega (arith, c .loop-test .taken)) }
+rank-requires-2 c κs = record { usable = start (c .before) .pre; dart = (omega arith, omega (arith, c .loop-test .taken)) }
 
 loop-again : tie.Need-loop-again Inv-loop μ-loop
 unfolding mapOf

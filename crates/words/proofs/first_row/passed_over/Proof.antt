@@ -14,7 +14,7 @@ use Rattle.words.proofs.first_row.passed_over.Tie as tie
 
 inside : (s : tie.Start) → (1 ≤ s .args .d) × (s .args .d ≤ 1020)
 unfolding mapOf
-inside s = let p = s .pre in (p .dart .0, omega (arith, p .dart .1, darts-most (p .rows .shaped .bounds)))
+inside s = let p = s .pre in (p .dart .0, omega (arith, p .dart .1, darts-most (p .usable .shaped .bounds)))
 
 -- what is read is what is over it
 read : (c : tie.After-wide) → let s = c .before .before .before in nth (s .args .up .now) (s .args .d) ≡ c .wide .result

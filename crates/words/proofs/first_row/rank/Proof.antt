@@ -31,25 +31,25 @@ module _ (M : Map) (d first : ℕ) (is : first ≡ firstLabel d (sew M 0 d) (sew
 module _ (g : Given) {back : List ℕ} {d : ℕ} (p : Ranks g back d) where
   few : d ≤ 1020
   unfolding mapOf
-  few = omega (arith, p .dart .1, darts-most (p .rows .shaped .bounds))
+  few = omega (arith, p .dart .1, darts-most (p .usable .shaped .bounds))
 
   back-read : getD back (d - 1) 0 ≡ sew (mapOf g) 0 d
   unfolding mapOf
-  back-read = ap (λ (l : List ℕ). getD l (d - 1) 0) (p .rows .backs) ∙ backs-sew (mapOf g) d (p .dart) few
+  back-read = ap (λ (l : List ℕ). getD l (d - 1) 0) (p .usable .backs) ∙ backs-sew (mapOf g) d (p .dart) few
 
   row-inside : (i : ℕ) → i < g .n → (d - 1) * g .n + i < length (g .table)
-  row-inside i below = in-row (p .rows .shaped) d i (p .dart) below
+  row-inside i below = in-row (p .usable .shaped) d i (p .dart) below
 
   row-few : (i : ℕ) → i < g .n → (d - 1) * g .n + i < 1020
-  row-few i below = let s = p .rows .shaped in omega (arith, row-inside i below, s .long, s .bounds .table-most)
+  row-few i below = let s = p .usable .shaped in omega (arith, row-inside i below, s .long, s .bounds .table-most)
 
   some-dim : 0 < g .n
-  some-dim = p .rows .shaped .bounds .dim-least
+  some-dim = p .usable .shaped .bounds .dim-least
 
   next-read : getD (g .table) ((d - 1) * g .n) 0 ≡ sew (mapOf g) 1 d
   next-read =
       let here : (d - 1) * g .n + 0 ≡ (d - 1) * g .n = omega arith in
-      rw here at (row-sew (p .rows .shaped) d 0 (p .dart) some-dim)
+      rw here at (row-sew (p .usable .shaped) d 0 (p .dart) some-dim)
 
 abbrev given : tie.Start → Given
 given s = lent (s .args .n) (s .args .m) (s .args .table .now)
@@ -90,7 +90,7 @@ second-read : (c : tie.After-wide3) →
 second-read c =
     let e = c .before .before in
     let s = start (e .before) in
-    c .wide3 .ensures ∙ row-sew (s .pre .rows .shaped) (s .args .d) 1 (s .pre .dart) (second e)
+    c .wide3 .ensures ∙ row-sew (s .pre .usable .shaped) (s .args .d) 1 (s .pre .dart) (second e)
 
 returns : tie.Need-returns
 unfolding mapOf

@@ -10,7 +10,8 @@ use Rattle.maps.specs.Verdict.{accepts}
 use Rattle.maps.specs.declared.Output.the-variants as output
 use Rattle.maps.proofs.Answer.{passed-accepts}
 use Rattle.labels.specs.Judging.{tableAnswer}
-use Rattle.words.proofs.Sign.{signed-refused, signed-run, signing-accepted, signing-shaped, signing-room}
+use Rattle.words.proofs.Starts.{judged-usable}
+use Rattle.words.proofs.Sign.{signed-refused, signed-run, signing-shaped, signing-room}
 use Rattle.words.proofs.least_word.signature.Statement.{statement}
 use Rattle.words.proofs.least_word.signature.Tie as tie
 
@@ -48,9 +49,7 @@ run-requires c κs =
     let t = c .before .before .before in
     let judged = judge-of t .judge .ensures in
     record {
-      shaped = shaped t;
-      taken = signing-accepted _ (start (judge-of t) .args .output .now) (accepting t);
-      backs = judged .answer .backs ∙ simp (accepting t);
+      usable = judged-usable _ _ judged (accepting t);
       blank = judged .blank;
       above = c .before .before .blank .ensures;
     }

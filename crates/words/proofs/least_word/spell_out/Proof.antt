@@ -26,7 +26,7 @@ spelt-out {g} {held = held} {held′ = held′} {s = s} {rows = rows} {side = si
     let r = p .ready in
     let M = mapOf g in
     let size = g .n * g .m in
-    let a = r .taken in
+    let a = r .usable .taken in
     let w = tried-whole a (r .dart) t in
     let is-less = known-less a rows (r .some-rows) s (r .dart) (r .long-word) (p .partly) below in
     let written : held′ ≡ over (word M s) held = w .best ∙ ap (λ (b : List ℕ). over b held) (lesser-less (word M s) (take size held) is-less) in
@@ -50,7 +50,7 @@ spelt-already {g} {held = held} {s = s} {rows = rows} p all =
       blank = r .blank;
       long-queue = r .long-queue;
       long-word = r .long-word;
-      whole-word = known-whole (r .taken) (word (mapOf g) s) (length-word (r .taken) s (r .dart)) (rw whole at (p .partly));
+      whole-word = known-whole (r .usable .taken) (word (mapOf g) s) (length-word (r .usable .taken) s (r .dart)) (rw whole at (p .partly));
       order = λ below. absurd (omega arith);
     }
 
@@ -58,9 +58,7 @@ try-start-requires : tie.Need-try-start-requires
 try-start-requires c κs =
     let r = c .before .before .before .before .before .pre .ready in
     record {
-      shaped = r .shaped;
-      taken = r .taken;
-      backs = r .backs;
+      usable = r .usable;
       dart = r .dart;
       some-rows = omega arith;
       blank = r .blank;

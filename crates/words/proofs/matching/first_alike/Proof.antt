@@ -65,7 +65,7 @@ unfolding mapOf
 yielded c =
     let t = in-loop (tried c) in
     let l = t .before in
-    let came = tried-whole (start l .pre .taken) (l .loop .inv .low, t .loop-test .taken) (tried c .try-start .ensures) .outcome in
+    let came = tried-whole (start l .pre .usable .taken) (l .loop .inv .low, t .loop-test .taken) (tried c .try-start .ensures) .outcome in
     let a = start l .args in
     let M = mapOf (lent (a .n) (a .m) (a .table .now)) in
     same-yields M _ (l .loop .d) _ _
@@ -120,7 +120,7 @@ first-alike-spec =
     try-start-requires
     (λ c κs. search needs)
     returns
-    (λ c. let l = in-loop (tried (c .before)) .before in omega (arith, darts-most (start l .pre .shaped .bounds)))
+    (λ c. let l = in-loop (tried (c .before)) .before in omega (arith, darts-most (start l .pre .usable .shaped .bounds)))
     (λ c. omega arith)
     loop-again
     returns-2)

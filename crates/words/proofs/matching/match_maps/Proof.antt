@@ -21,7 +21,7 @@ use Rattle.labels.specs.Queue.{labelIn, labelling}
 use Rattle.labels.specs.Judging.{tableAnswer, checkAnswer}
 use Rattle.labels.specs.Theorems.{CheckNumbers}
 use Rattle.labels.proofs.Reached.{labelling-numbers}
-use Rattle.labels.proofs.Judging.{table-clear, table-whole, check-whole}
+use Rattle.labels.proofs.Judging.{table-whole, check-whole}
 use Rattle.labels.proofs.Theorems.{check-numbers}
 use Rattle.words.specs.Words.{word, lesser, yields, byLabels}
 use Rattle.words.specs.Match.{imageOfFirst, shown}
@@ -30,7 +30,7 @@ use Rattle.words.specs.Inside.{leavesAt, Images, Tried}
 use Rattle.words.specs.declared.engine.Side.{Side}
 use Rattle.words.specs.declared.engine.Side.the-variants.{Less}
 use Rattle.words.proofs.Words.{length-word}
-use Rattle.words.proofs.Starts.{less-side, lesser-less, word-below}
+use Rattle.words.proofs.Starts.{judged-usable, less-side, lesser-less, word-below}
 use Rattle.words.proofs.Racing.{tried-whole}
 use Rattle.words.proofs.Sign.{take-replicate, over-front, over-long}
 use Rattle.words.proofs.Match.{match-first, match-second, match-unlike, match-none, match-passed, matches-refused, matches-passed, Cleared, match-clear}
@@ -139,12 +139,10 @@ try-start-requires : tie.Need-try-start-requires
 try-start-requires c κs =
     let t = c .before .before .before .before in
     let answer = judged t .judge .ensures in
-    let passed = table-clear _ _ (table-whole _ _ (accepting t)) in
+    let usable = judged-usable _ _ answer (accepting t) in
     record {
-      shaped = passed .1;
-      taken = passed .2;
-      backs = answer .answer .backs ∙ simp (accepting t);
-      dart = first-dart (passed .2);
+      usable = usable;
+      dart = first-dart (usable .taken);
       some-rows = omega arith;
       blank = answer .blank;
       long-queue = length-replicate {A = ℕ} 1020 0;
@@ -199,9 +197,7 @@ first-alike-requires c κs =
     let t = c .before .before .before .before .before .before in
     let answer = judged2 t .judge2 .ensures in
     record {
-      shaped = cleared t .shaped′;
-      taken = cleared t .second;
-      backs = answer .answer .backs ∙ simp (unlent2 t);
+      usable = judged-usable _ _ answer (unlent2 t);
       blank = answer .blank;
       long-queue = length-replicate {A = ℕ} 1020 0;
       long-word = spelt-here t .long;

@@ -56,7 +56,7 @@ trying-passed {g} {held₀ = held₀} {up = up} {d = d} {r = r} p y next dart fi
         let earlier = rw next at (y .none-less) in
         rw (← same) (earlier (nth up d) covered (y .kin .forest .lower d (dart .0)))
     at (inr above) =
-        let taken = p .seeks .taken in
+        let taken = p .seeks .usable .taken in
         let greater = rank-less taken 1 d (omega arith, taken .bounds .darts-least) dart (omega (arith, first)) in
         greater-not-less _ _ (rw (p .first) at greater)
 
@@ -64,7 +64,7 @@ module _ (g : Given) {back labels₀ queue₀ lead held₀ : List ℕ} (p : Lead
     {labels′ queue′ held′ : List ℕ} {side : Side} (t : Tried g d (g .m) true held labels′ queue′ held′ side) where
   -- how its whole word comes out
   all : TriedWhole g d true held labels′ queue′ held′ side
-  all = tried-whole (p .seeks .taken) dart t
+  all = tried-whole (p .seeks .usable .taken) dart t
 
   abbrev best : List ℕ
   best = take (g .n * g .m) held₀
@@ -89,17 +89,17 @@ module _ (g : Given) {back labels₀ queue₀ lead held₀ : List ℕ} (p : Lead
   unfolding mapOf
   tied is =
       let M = mapOf g in
-      let taken = p .seeks .taken in
+      let taken = p .seeks .usable .taken in
       let own : word M d ≡ best = yields-word M best d (same-yields M best d side (isSame side) came refl ∙ is) in
       tied-alike taken d 1 dart (omega arith, taken .bounds .darts-least) (own ∙ sym (p .first)) (all .whole (same-stays true side is)) (p .order)
 
   joins : isSame side ≡ true → JoinsAll up queue′ lead (g .m)
   unfolding mapOf
-  joins is = alike-joins (p .seeks .taken) (y .kin .forest) (t .long-queue) (p .long-lead) (tied is)
+  joins is = alike-joins (p .seeks .usable .taken) (y .kin .forest) (t .long-queue) (p .long-lead) (tied is)
 
   joined-kin : isSame side ≡ true → Kin (mapOf g) (joinedAll (g .m) queue′ lead up)
   unfolding mapOf
-  joined-kin is = kin-joinedAll (p .seeks .taken) (y .kin) (tied is) (g .m) (omega arith)
+  joined-kin is = kin-joinedAll (p .seeks .usable .taken) (y .kin) (tied is) (g .m) (omega arith)
 
 abbrev Inv-loop : tie.InvT-loop
 Inv-loop n m table back labels₀ queue₀ lead word₀ first up₀ d₀ labels queue word up d = Trying (lent n m table) word₀ labels queue word up d
@@ -133,7 +133,7 @@ rank-requires : tie.Need-rank-requires Inv-loop μ-loop
 unfolding mapOf
 rank-requires c κs =
     let s = c .before .pre .seeks in
-    record { rows = record { shaped = s .shaped; backs = s .backs }; dart = (omega arith, s .taken .bounds .darts-least) }
+    record { usable = s .usable; dart = (omega arith, s .usable .taken .bounds .darts-least) }
 
 loop-holds : tie.Need-loop-holds Inv-loop μ-loop
 loop-holds c =
@@ -152,7 +152,7 @@ passed-over-requires : tie.Need-passed-over-requires Inv-loop μ-loop
 passed-over-requires c κs =
     let i = c .before in
     let s = start (i .before) .pre .seeks in
-    record { rows = record { shaped = s .shaped; backs = s .backs }; dart = dart i }
+    record { usable = s .usable; dart = dart i }
 
 loop-again : tie.Need-loop-again Inv-loop μ-loop
 loop-again c =
@@ -211,7 +211,7 @@ unfolding mapOf
 returns-2 c =
     let l = c .before in
     let p = start l .pre in
-    let one : IsDart (mapOf (given l)) 1 = (omega arith, p .seeks .taken .bounds .darts-least) in
+    let one : IsDart (mapOf (given l)) 1 = (omega arith, p .seeks .usable .taken .bounds .darts-least) in
     sym (own-yielded _ _ (passed-misses _ (l .loop .inv .none-less) (omega (arith, c .loop-test .left))) 1 one (word-yields _ _ 1 (p .first)))
 
 pub is-least-spec : {M : Type 1} → statement M
@@ -222,7 +222,7 @@ is-least-spec =
     μ-loop
     rank-requires
     loop-holds
-    (λ c. omega (arith, dart c .1, darts-most (start (c .before) .pre .seeks .shaped .bounds)))
+    (λ c. omega (arith, dart c .1, darts-most (start (c .before) .pre .seeks .usable .shaped .bounds)))
     passed-over-requires
     (λ c. omega arith)
     loop-again

@@ -60,7 +60,7 @@ given s = lent (s .args .n) (s .args .m) (s .args .table .now)
 
 hold-requires : tie.Need-hold-requires
 hold-requires c κs =
-    let s = c .before .before .pre .shaped in
+    let s = c .before .before .pre .usable .shaped in
     (omega (arith, s .long, s .bounds .table-most), length-replicate {A = ℕ} 1020 0)
 
 try-start-requires : tie.Need-try-start-requires
@@ -69,10 +69,8 @@ try-start-requires c κs =
     let h = c .before .before .before in
     let p = start h .pre in
     record {
-      shaped = p .shaped;
-      taken = p .taken;
-      backs = p .backs;
-      dart = (omega arith, p .taken .bounds .darts-least);
+      usable = p .usable;
+      dart = (omega arith, p .usable .taken .bounds .darts-least);
       some-rows = omega arith;
       blank = p .blank;
       long-queue = length-replicate {A = ℕ} 1020 0;
@@ -89,16 +87,14 @@ is-least-requires c κs =
     let done = t .try-start .ensures in
     record {
       seeks = record {
-        shaped = p .shaped;
-        taken = p .taken;
-        backs = p .backs;
+        usable = p .usable;
         blank = done .blank;
         long-queue = length-replicate {A = ℕ} 1020 0;
-        long-word = first-long _ (p .shaped) (p .taken) (h .hold .ensures) done (a .alike .ensures);
+        long-word = first-long _ (p .usable .shaped) (p .usable .taken) (h .hold .ensures) done (a .alike .ensures);
       };
       long-lead = done .long-queue;
-      order = first-order _ (p .shaped) (p .taken) (h .hold .ensures) done (a .alike .ensures) (l .if1 .taken);
-      first = first-word _ (p .shaped) (p .taken) (h .hold .ensures) done (a .alike .ensures) (l .if1 .taken);
+      order = first-order _ (p .usable .shaped) (p .usable .taken) (h .hold .ensures) done (a .alike .ensures) (l .if1 .taken);
+      first = first-word _ (p .usable .shaped) (p .usable .taken) (h .hold .ensures) done (a .alike .ensures) (l .if1 .taken);
     }
 
 returns : tie.Need-returns
@@ -108,7 +104,7 @@ returns c =
     let h = held t in
     let s = start h in
     c .is-least .ensures
-    ∙ ap (λ (w : List ℕ). same w (signature (mapOf (given s)))) (first-held _ (s .pre .shaped) (s .pre .taken) (h .hold .ensures) (t .try-start .ensures) (a .alike .ensures))
+    ∙ ap (λ (w : List ℕ). same w (signature (mapOf (given s)))) (first-held _ (s .pre .usable .shaped) (s .pre .usable .taken) (h .hold .ensures) (t .try-start .ensures) (a .alike .ensures))
 
 returns-2 : tie.Need-returns-2
 returns-2 c =
@@ -116,8 +112,8 @@ returns-2 c =
     let t = a .before in
     let h = held t in
     let p = start h .pre in
-    let missed = first-yields _ (p .shaped) (p .taken) (h .hold .ensures) (t .try-start .ensures) (a .alike .ensures) ∙ c .if1 .left in
-    sym (own-first _ (p .taken) missed)
+    let missed = first-yields _ (p .usable .shaped) (p .usable .taken) (h .hold .ensures) (t .try-start .ensures) (a .alike .ensures) ∙ c .if1 .left in
+    sym (own-first _ (p .usable .taken) missed)
 
 pub is-own-spec : {M : Type 1} → statement M
 is-own-spec = tie.close (tie.spec hold-requires try-start-requires (λ c κs. search needs) is-least-requires returns returns-2)

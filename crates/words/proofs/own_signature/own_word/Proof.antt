@@ -2,13 +2,12 @@
 use mathlib.Core.Path.{_≡_, sym, _∙_}
 use mathlib.Core.Bool.{true, false}
 use borrow.Author.Needs.{needs}
-use Rattle.maps.specs.Accepted.{Accepted}
-use Rattle.maps.specs.Given.{Given, lent, mapOf, Shaped}
+use Rattle.maps.specs.Given.{Given, lent}
 use Rattle.maps.specs.Verdict.{accepts}
 use Rattle.maps.specs.declared.Output.the-variants as output
 use Rattle.maps.proofs.Answer.{passed-accepts}
 use Rattle.labels.specs.Judging.{tableAnswer, checkAnswer}
-use Rattle.labels.proofs.Judging.{table-clear, table-whole}
+use Rattle.words.proofs.Starts.{judged-usable}
 use Rattle.words.proofs.Own.{own-refused, own-told}
 use Rattle.words.proofs.own_signature.own_word.Statement.{statement}
 use Rattle.words.proofs.own_signature.own_word.Tie as tie
@@ -34,12 +33,6 @@ accepting : (c : tie.After-enum-told) → accepts (checkAnswer (given (start (ju
 unfolding checkAnswer
 accepting c = unlent c
 
-shaped : (c : tie.After-enum-told) → Shaped (given (start (judged c)))
-shaped c = table-clear output.Nothing _ (table-whole output.Nothing _ (unlent c)) .1
-
-taken : (c : tie.After-enum-told) → Accepted (mapOf (given (start (judged c))))
-taken c = table-clear output.Nothing _ (table-whole output.Nothing _ (unlent c)) .2
-
 returns : tie.Need-returns
 unfolding checkAnswer
 returns c =
@@ -50,7 +43,7 @@ is-own-requires : tie.Need-is-own-requires
 is-own-requires c κs =
     let t = c .before .before in
     let answer = judged t .judge .ensures in
-    record { shaped = shaped t; taken = taken t; backs = answer .answer .backs ∙ simp (unlent t); blank = answer .blank }
+    record { usable = judged-usable output.Nothing _ answer (unlent t); blank = answer .blank }
 
 returns-2 : tie.Need-returns-2
 returns-2 c = own-told _ (accepting (told (c .before))) true (sym (c .if1 .taken) ∙ c .before .is-own .ensures)

@@ -61,7 +61,7 @@ turn-of : (c : tie.In-loop Inv-loop μ-loop) →
     Turn (given l) (ranks-of l .least-rank .result) (l .loop .labels) (l .loop .queue) (l .loop .lead) (l .loop .up) (l .loop .self .word) (l .loop .start) (l .loop .rows) (l .loop .d)
 turn-of c =
     let l = c .before in
-    record { taken = start l .pre .taken; ranks = ranks-of l .least-rank .ensures; so-far = l .loop .inv; in-map = start-in c }
+    record { taken = start l .pre .usable .taken; ranks = ranks-of l .least-rank .ensures; so-far = l .loop .inv; in-map = start-in c }
 
 -- some rows are spelt out at first, as many as there are at most
 few-low : (m : ℕ) → 1 ≤ m → 1 ≤ fewRows m
@@ -89,13 +89,13 @@ loop-holds c =
     let high : c .few-rows .result ≤ m = rw few (few-high m) in
     record {
       high = omega arith;
-      rows-low = rw few (few-low m (s .pre .shaped .bounds .darts-least));
+      rows-low = rw few (few-low m (s .pre .usable .shaped .bounds .darts-least));
       rows-high = high;
       blank = s .pre .blank;
       long-queue = length-replicate {A = ℕ} 1020 0;
       long-lead = length-replicate {A = ℕ} 1020 0;
       long-word = ap length (s .pre .above) ∙ length-replicate {A = ℕ} 1020 65535;
-      partly = rw (bestWord-none _, s .pre .above) (known-start (s .pre .taken) _ high);
+      partly = rw (bestWord-none _, s .pre .above) (known-start (s .pre .usable .taken) _ high);
       best = rw (bestWord-none _) (best-start _ _ _ 0 (kin-none _));
       order = λ no. absurd (omega arith);
     }
@@ -106,7 +106,7 @@ unfolding mapOf
 passed-over-requires c κs =
     let i = c .before in
     let s = start (i .before) in
-    record { rows = record { shaped = s .pre .shaped; backs = s .pre .backs }; dart = (omega arith, start-in i) }
+    record { usable = s .pre .usable; dart = (omega arith, start-in i) }
 
 loop-again : tie.Need-loop-again Inv-loop μ-loop
 loop-again c = let p = c .before in trying-passed (turn-of (p .before .before)) (sym (p .passed-over .ensures) ∙ c .if1 .taken)
@@ -118,9 +118,7 @@ try-start-requires c κs =
     let s = start (i .before) in
     let y = i .before .loop .inv in
     record {
-      shaped = s .pre .shaped;
-      taken = s .pre .taken;
-      backs = s .pre .backs;
+      usable = s .pre .usable;
       dart = (omega arith, start-in i);
       some-rows = y .rows-high;
       blank = y .blank;
@@ -179,9 +177,7 @@ spell-out-requires c κs =
     (same-rows (turn-of i) done is) in
     record {
       ready = record {
-        shaped = s .pre .shaped;
-        taken = s .pre .taken;
-        backs = s .pre .backs;
+        usable = s .pre .usable;
         dart = there;
         some-rows = y .rows-high;
         blank = done .blank;
@@ -207,7 +203,7 @@ settle-requires c κs =
     let i = in-loop t in
     let l = i .before in
     let s = start l in
-    record { few = darts-most (s .pre .shaped .bounds); long-queue = t .try-start .ensures .long-queue; long-lead = l .loop .inv .long-lead; joins = settles (turn-of i) (t .try-start .ensures) (decided e) }
+    record { few = darts-most (s .pre .usable .shaped .bounds); long-queue = t .try-start .ensures .long-queue; long-lead = l .loop .inv .long-lead; joins = settles (turn-of i) (t .try-start .ensures) (decided e) }
 
 loop-again-3 : tie.Need-loop-again-3 Inv-loop μ-loop
 loop-again-3 c =
@@ -225,7 +221,7 @@ led : (c : tie.After-loop Inv-loop μ-loop) →
 unfolding mapOf
 led c =
     let l = c .before in
-    let taken = start l .pre .taken in
+    let taken = start l .pre .usable .taken in
     best-led taken (rank-filter taken _ (ranks-of l .least-rank .ensures)) (l .loop .inv .best) (omega (arith, c .loop-test .left))
 
 spell-out-requires-2 : tie.Need-spell-out-requires-2 Inv-loop μ-loop
@@ -238,9 +234,7 @@ spell-out-requires-2 c κs =
     let t = led e in
     record {
       ready = record {
-        shaped = s .pre .shaped;
-        taken = s .pre .taken;
-        backs = s .pre .backs;
+        usable = s .pre .usable;
         dart = t .is-first .dart;
         some-rows = y .rows-high;
         blank = y .blank;
@@ -258,7 +252,7 @@ returns c =
     let l = e .before in
     let s = start l in
     let y = l .loop .inv in
-    let taken = s .pre .taken in
+    let taken = s .pre .usable .taken in
     let filter = rank-filter taken _ (ranks-of l .least-rank .ensures) in
     let all : s .args .m < l .loop .d + 1 = omega (arith, e .loop-test .left) in
     record {
@@ -274,10 +268,10 @@ run-spec =
     (tie.spec
     Inv-loop
     μ-loop
-    (λ c κs. let s = c .before in record { shaped = s .pre .shaped; backs = s .pre .backs })
+    (λ c κs. c .before .pre .usable)
     (λ c κs. search needs)
     loop-holds
-    (λ c. omega (arith, start-in c, darts-most (start (c .before) .pre .shaped .bounds)))
+    (λ c. omega (arith, start-in c, darts-most (start (c .before) .pre .usable .shaped .bounds)))
     passed-over-requires
     (λ c. omega arith)
     loop-again
@@ -290,5 +284,5 @@ run-spec =
     (λ c. omega arith)
     loop-again-3
     spell-out-requires-2
-    (λ c κs. let s = start (c .before .before .before .before .before .before) in record { forest = c .before .before .before .before .before .before .loop .inv .best .kin .forest; few = darts-most (s .pre .shaped .bounds) })
+    (λ c κs. let s = start (c .before .before .before .before .before .before) in record { forest = c .before .before .before .before .before .before .loop .inv .best .kin .forest; few = darts-most (s .pre .usable .shaped .bounds) })
     returns)

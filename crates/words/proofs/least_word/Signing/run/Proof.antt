@@ -192,8 +192,6 @@ loop-again-2 c =
     let e = c .before .before .before .before in
     let t = tried (e .before) in
     let i = in-loop t in
-    let l = i .before in
-    let s = start l in
     trying-spelt (turn-of i) (t .try-start .ensures) (open-rows e .0) (open-rows e .1) (c .spell-out .ensures)
 
 settle-requires : tie.Need-settle-requires Inv-loop μ-loop
@@ -210,8 +208,6 @@ loop-again-3 c =
     let e = settled (c .before) in
     let t = tried (e .before) in
     let i = in-loop t in
-    let l = i .before in
-    let s = start l in
     trying-turn (turn-of i) (t .try-start .ensures) (kept-start t .0) (kept-start t .1) (decided e) (c .settle .ensures)
 
 -- all starts are tried, passed over or left out: one leads

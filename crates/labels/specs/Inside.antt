@@ -69,7 +69,8 @@ pub record Starts (g : Given) (back labels queue : List ℕ) : Type 0 where
   pub long-queue : length queue ≡ 1020
 
 -- the labelling from dart 1 has come to its end
-pub record Reaches (g : Given) (labels queue : List ℕ) (given : ℕ) : Type 0 where
+pub record Reaches (g : Given) (labels queue : List ℕ) : Type 0 where
+  pub given : ℕ
   pub good : DartsOnce (mapOf g) (labelling (mapOf g) 1)
   pub holds : Holds labels queue given (labelling (mapOf g) 1)
 

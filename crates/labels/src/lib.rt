@@ -72,9 +72,9 @@ fn reach(
     back: &[u16; 1020],
     labels: &mut [u16; 1020],
     queue: &mut [u16; 1020],
-) -> Labelling
+)
     requires { ⌜ Starts (lent n m (now table)) (now back) (now labels) (now queue) ⌝ }
-    ensures { λ r. ⌜ Reaches (lent n m (now (table .entry))) (now (labels .exit)) (now (queue .exit)) (r .given) ⌝ }
+    ensures { λ _. ⌜ Reaches (lent n m (now (table .entry))) (now (labels .exit)) (now (queue .exit)) ⌝ }
 {
     labels[0] = 1;
     queue[0] = 1;
@@ -85,7 +85,6 @@ fn reach(
         labelling = labelling.serve(n, m, table, back, labels, queue, served);
         k += 1;
     }
-    labelling
 }
 
 // The least dart that has no label, or 0.

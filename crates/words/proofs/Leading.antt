@@ -1,7 +1,6 @@
 -- The starts of a map are tried upwards against the best word so far, and some are passed over (01: "the least word in lexicographic
 -- order over all m starts"): what `Signing::run` keeps, and what it has at its end.
 --     Filter M kept           a start that is not kept has a greater word than one that is
---     all-kept                every start may be kept
 --     Best M kept up d s b    of the starts below d that are kept, b is the least word and s the least start that yields it; those that
 --                             yield it are in the tree of s
 --     best-start              before the first start
@@ -40,9 +39,6 @@ use Rattle.words.proofs.Kin.{Kin, kin-top-word, Alike, kin-joinedAll, F
 pub record Filter (M : Map) (kept : ℕ → Bool) : Type 0 where
   pub by-word : (d e : ℕ) → IsDart M d → IsDart M e → word M d ≡ word M e → kept d ≡ kept e
   pub lesser-kept : (d : ℕ) → IsDart M d → kept d ≡ false → (e : ℕ) × IsDart M e × (kept e ≡ true) × (less (word M e) (word M d) ≡ true)
-
-pub all-kept : (M : Map) → Filter M (λ d. true)
-all-kept M = record { by-word = λ d e _ _ _. refl; lesser-kept = λ d _ not-kept. absurd (true-not-false refl not-kept) }
 
 -- what is held: before the first start numbers above all labels, then the word of the start s
 pub data Held (M : Map) (kept : ℕ → Bool) (d s : ℕ) (b : List ℕ) : Type 0 where

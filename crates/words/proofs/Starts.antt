@@ -31,8 +31,7 @@ use Rattle.labels.specs.Judging.{tableAnswer, Judges}
 use Rattle.labels.proofs.Judging.{table-clear, table-whole}
 use Rattle.labels.proofs.Reached.{labelling-numbers}
 use Rattle.words.specs.Words.{word, same, less, lesser, yields}
-use Rattle.words.specs.FirstRow.{Usable}
-use Rattle.words.specs.Inside.{sideOf, isLess, isSame, leavesAt, Ready, Seeks}
+use Rattle.words.specs.Inside.{sideOf, isLess, isSame, leavesAt, Usable, Ready, Seeks}
 use Rattle.words.specs.declared.engine.Side.{Side}
 use Rattle.words.specs.declared.engine.Side.the-variants.{Less, Same, Greater}
 use Rattle.words.proofs.Words.{length-word, nth-word}

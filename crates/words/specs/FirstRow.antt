@@ -2,7 +2,6 @@
 -- public contract cites this file.
 --     firstLabel d back next     the label of β1(d) in the labelling from d
 --     rankOf M d                 twice that, and one more where d is 2-sewn: a start of a lesser rank has a lesser word
---     Usable                     a table that the judge has passed, and β0 as it leaves it
 --     Ranks                      the rank of a start may be asked
 --     LeastRank M r              r is the least rank of all starts
 --     passesOver M up r d        d need not be tried: a dart is over it, which has its word, or its rank is above r
@@ -14,9 +13,8 @@ use mathlib.Core.List.{List}
 use lib.Dec.{eqb, ltb}
 use Rattle.maps.specs.Least.{nth}
 use Rattle.maps.specs.Map.{Map, IsDart, sew}
-use Rattle.maps.specs.Accepted.{Accepted}
-use Rattle.maps.specs.Given.{Given, mapOf, Shaped}
-use Rattle.maps.specs.Answer.{backsOf}
+use Rattle.maps.specs.Given.{Given, mapOf}
+use Rattle.words.specs.Inside.{Usable}
 
 -- the label of β1(d), which is met after d and β0(d)
 unfoldable pub firstLabel : ℕ → ℕ → ℕ → ℕ
@@ -25,12 +23,6 @@ firstLabel d back next = cond (eqb next 0) 0 (cond (eqb next d) 1 (cond (eqb bac
 -- the first number of the word from d, and where there is a β2, whether the second is 0
 unfoldable pub rankOf : Map → ℕ → ℕ
 rankOf M d = 2 * firstLabel d (sew M 0 d) (sew M 1 d) + cond (eqb (sew M 2 d) 0) 0 1
-
--- a table that the judge has passed, and β0 as it leaves it
-pub record Usable (g : Given) (back : List ℕ) : Type 0 where
-  pub shaped : Shaped g
-  pub taken : Accepted (mapOf g)
-  pub backs : back ≡ backsOf (mapOf g)
 
 -- the rank of a start may be asked
 pub record Ranks (g : Given) (back : List ℕ) (d : ℕ) : Type 0 where

@@ -5,6 +5,7 @@
 --     Met                         what meeting a dart leaves, and its label
 --     Weighs, Weighed             a number may be judged, and what judging it leaves in the array of the word held
 --     front M d rows              the first rows of the word from d
+--     Usable                      a table that the judge has passed, and β0 as it leaves it
 --     Ready                       a start may be tried, as far as these rows
 --     Outcome                     how a start's rows come out against those held, and what is held then
 --     Forgets                     the labels given can be forgotten
@@ -30,13 +31,14 @@ use lib.Dec.{ltb}
 use lib.ListN.{length, getD, set, take, drop, replicate}
 use Rattle.maps.specs.Least.{nth, upTo, least}
 use Rattle.maps.specs.Map.{Map, IsDart}
-use Rattle.maps.specs.Given.{Given, mapOf}
+use Rattle.maps.specs.Accepted.{Accepted}
+use Rattle.maps.specs.Given.{Given, mapOf, Shaped}
+use Rattle.maps.specs.Answer.{backsOf}
 use Rattle.labels.specs.Queue.{labelIn, visit, labelling}
 use Rattle.labels.specs.Inside.{DartsOnce, Holds}
 use Rattle.words.specs.Words.{word, same, less, lesser, signature, yields, start, symmetries}
 use Rattle.words.specs.Sign.{over}
 use Rattle.words.specs.Forest.{joinedAll, JoinsAll}
-use Rattle.words.specs.FirstRow.{Usable}
 use Rattle.words.specs.declared.engine.Side.{Side}
 use Rattle.words.specs.declared.engine.Side.the-variants.{Less, Same, Greater}
 use Rattle.words.specs.declared.engine.Labelling.{Labelling}
@@ -88,6 +90,12 @@ pub record Weighed (before after : List ℕ) (p x : ℕ) (side : Side) (firm : B
 -- the first rows of the word from d
 unfoldable pub front : Map → ℕ → ℕ → List ℕ
 front M d rows = take (rows * M .dim) (word M d)
+
+-- a table that the judge has passed, and β0 as it leaves it
+pub record Usable (g : Given) (back : List ℕ) : Type 0 where
+  pub shaped : Shaped g
+  pub taken : Accepted (mapOf g)
+  pub backs : back ≡ backsOf (mapOf g)
 
 -- so many rows of a start may be tried: no dart has a label
 pub record Ready (g : Given) (back labels queue held : List ℕ) (d rows : ℕ) : Type 0 where

@@ -1,7 +1,8 @@
 // The first row of a start's word, read off the start's own sewings: a start that comes out greater there need not be tried.
 ghost use mathlib.Core.Path.{_≡_};
 ghost use Rattle.maps.specs.Given.{lent, mapOf};
-ghost use Rattle.words.specs.FirstRow.{firstLabel, rankOf, Usable, Ranks, LeastRank, passesOver};
+ghost use Rattle.words.specs.FirstRow.{firstLabel, rankOf, Ranks, LeastRank, passesOver};
+ghost use Rattle.words.specs.Inside.{Usable};
 use crate::engine::wide;
 
 // The label of β1(d) in the labelling from d, in which β0(d) is met before it.

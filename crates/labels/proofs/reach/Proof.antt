@@ -81,6 +81,7 @@ unfolding mapOf
 returns c =
     let s = start (c .before .before) in
     record {
+      given = c .before .before .loop .labelling .given;
       good = labelling-queue _ (s .pre .sewn .within) 1 (first s);
       holds = running-done _ (s .pre .sewn .within) _ (first s) (c .before .before .loop .inv) (c .if1 .left);
     }

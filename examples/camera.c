@@ -35,9 +35,9 @@ static void print_rows(const char *name, const struct layout *layout, const uint
   printf("\n");
 }
 
-static void print_refusal(uint32_t number, size_t place) {
+static void print_refusal(uint32_t number, size_t place, size_t n) {
   printf("  refused      ");
-  display_refusal(stdout, number, place);
+  display_refusal(stdout, number, place, n);
 }
 
 static bool show_signature(const char *title, const struct layout *layout) {
@@ -47,7 +47,7 @@ static bool show_signature(const char *title, const struct layout *layout) {
   printf("%s\n", title);
   print_rows("table", layout, layout->table);
   if (answer.number != DUFTHEIM_ACCEPTED) {
-    print_refusal(answer.number, answer.place);
+    print_refusal(answer.number, answer.place, layout->n);
     return false;
   }
   print_rows("signature", layout, word);
@@ -62,7 +62,7 @@ static bool show_filing(const char *title, uint32_t die, const struct layout *la
                                                numbers_of(layout), count, drawer, sizeof drawer);
   printf("%s\n", title);
   if (answer.number != DUFTHEIM_ACCEPTED) {
-    print_refusal(answer.number, answer.place);
+    print_refusal(answer.number, answer.place, layout->n);
     return false;
   }
   count = answer.count;
@@ -79,7 +79,7 @@ static uint32_t show_search(const char *title, const struct layout *layout) {
   if (answer.number == DUFTHEIM_NOT_FOUND) {
     printf("  not found\n");
   } else if (answer.number != DUFTHEIM_ACCEPTED) {
-    print_refusal(answer.number, answer.place);
+    print_refusal(answer.number, answer.place, layout->n);
   } else {
     const uint8_t *record = duftheim_record_bytes(drawer, answer.record);
     printf("  found        die %u, record %zu, whose n is %d and m %d\n", (unsigned)answer.die,
@@ -95,7 +95,8 @@ static bool show_match(const char *title, const struct layout *first, const stru
                      second->table, numbers_of(second), image, first->m);
   printf("%s\n", title);
   if (answer.number != DUFTHEIM_ACCEPTED) {
-    print_refusal(answer.number, answer.place);
+    size_t n = answer.number > DUFTHEIM_OF_SECOND ? second->n : first->n;
+    print_refusal(answer.number, answer.place, n);
     return false;
   }
   printf("  matching   ");

@@ -26,13 +26,13 @@ static const char *words(uint32_t number) {
   case DUFTHEIM_SHORT_OUTPUT:
     return "the output is too short";
   case DUFTHEIM_NO_SUCH_DART:
-    return "it is sewn to a dart that is not there";
+    return "it leads to a dart that is not there";
   case DUFTHEIM_SEWN_TWICE:
     return "a lower dart is 1-sewn to the same dart";
   case DUFTHEIM_NOT_SEWN_BACK:
-    return "what it is sewn to is not sewn back to it";
+    return "it leads to a dart that is not sewn back";
   case DUFTHEIM_SEWINGS_PART:
-    return "two of its sewings do not go together";
+    return "followed by a sewing lower by two or more, and both once more, it does not lead back";
   case DUFTHEIM_NOT_CONNECTED:
     return "it cannot be reached from dart 1";
   case DUFTHEIM_NO_MATCHING:
@@ -58,24 +58,34 @@ static const char *words(uint32_t number) {
   }
 }
 
-static const char *kind_of_place(uint32_t number) {
+// At the die a setter looks for a dart and one of its sewings, so an entry is told as these too.
+static void print_place(FILE *stream, uint32_t number, size_t place, size_t n) {
   switch (number) {
+  case DUFTHEIM_NO_SUCH_DART:
+  case DUFTHEIM_SEWN_TWICE:
+  case DUFTHEIM_NOT_SEWN_BACK:
+  case DUFTHEIM_SEWINGS_PART:
+    fprintf(stream, " at entry %zu, the %zu-sewing of dart %zu", place, (place - 1) % n + 1,
+            (place - 1) / n + 1);
+    break;
   case DUFTHEIM_BAD_RECORD:
   case DUFTHEIM_WRONG_DIE:
   case DUFTHEIM_FILED_ALREADY:
-    return "record";
+    fprintf(stream, " at record %zu", place);
+    break;
   default:
-    return "dart";
+    fprintf(stream, " at dart %zu", place);
+    break;
   }
 }
 
-void display_refusal(FILE *stream, uint32_t number, size_t place) {
+void display_refusal(FILE *stream, uint32_t number, size_t place, size_t n) {
   int of_second = number > DUFTHEIM_OF_SECOND;
   uint32_t of_one = of_second ? number - DUFTHEIM_OF_SECOND : number;
   const char *said = place == 0 ? words_without_place(of_one) : NULL;
   fprintf(stream, "number %u", (unsigned)number);
   if (place != 0) {
-    fprintf(stream, " at %s %zu", kind_of_place(of_one), place);
+    print_place(stream, of_one, place, n);
   }
   fprintf(stream, "%s: %s\n", of_second ? " of the second layout" : "",
           said != NULL ? said : words(of_one));

@@ -27,9 +27,9 @@ static enum status worse(enum status one, enum status other) { return one > othe
 static struct map map, second_map;
 static struct drawer drawer;
 
-static enum status refused(const char *path, uint32_t number, size_t place) {
+static enum status refused(const char *path, uint32_t number, size_t place, size_t n) {
   fprintf(stderr, "%s: refused, ", path);
-  display_refusal(stderr, number, place);
+  display_refusal(stderr, number, place, n);
   return REFUSED;
 }
 
@@ -52,7 +52,7 @@ static enum status check_one(const char *path) {
   struct duftheim_verdict answer =
       duftheim_drawer_check(drawer.count, drawer.bytes, sizeof drawer.bytes);
   if (answer.number != DUFTHEIM_ACCEPTED) {
-    return refused(path, answer.number, answer.place);
+    return refused(path, answer.number, answer.place, 0);
   }
   printf("%s: good, %zu of %d records\n", path, drawer.count, DUFTHEIM_MOST_RECORDS);
   return YES;
@@ -74,7 +74,7 @@ static enum status find(char **words, int count) {
   }
   struct duftheim_verdict judged = duftheim_check(map.n, map.m, map.table, map.length);
   if (judged.number != DUFTHEIM_ACCEPTED) {
-    return refused(words[0], judged.number, judged.place);
+    return refused(words[0], judged.number, judged.place, map.n);
   }
   bool found = false;
   enum status status = YES;
@@ -89,7 +89,7 @@ static enum status find(char **words, int count) {
       found = true;
       printf("found: die %u, record %zu of %s\n", (unsigned)answer.die, answer.record, words[k]);
     } else if (answer.number != DUFTHEIM_NOT_FOUND) {
-      status = worse(status, refused(words[k], answer.number, answer.place));
+      status = worse(status, refused(words[k], answer.number, answer.place, map.n));
     }
   }
   if (!found) {
@@ -108,7 +108,7 @@ static enum status file_into(struct replacing *replacing, uint32_t die, const ch
                                                drawer.count, drawer.bytes, sizeof drawer.bytes);
   if (answer.number != DUFTHEIM_ACCEPTED) {
     replacing_give_up(replacing);
-    return refused(path, answer.number, answer.place);
+    return refused(path, answer.number, answer.place, map.n);
   }
   drawer.count = answer.count;
   if (!replacing_finish(replacing, &drawer)) {
@@ -127,7 +127,7 @@ static enum status file(char **words, int count) {
   }
   struct duftheim_verdict judged = duftheim_check(map.n, map.m, map.table, map.length);
   if (judged.number != DUFTHEIM_ACCEPTED) {
-    return refused(words[1], judged.number, judged.place);
+    return refused(words[1], judged.number, judged.place, map.n);
   }
   if (!replacing_begin(words[2], &replacing)) {
     return FAILED;
@@ -150,7 +150,9 @@ static enum status match(char **words, int count) {
     return REFUSED;
   }
   if (answer.number != DUFTHEIM_ACCEPTED) {
-    return refused(words[answer.number > DUFTHEIM_OF_SECOND], answer.number, answer.place);
+    bool of_second = answer.number > DUFTHEIM_OF_SECOND;
+    size_t n = of_second ? second_map.n : map.n;
+    return refused(words[of_second], answer.number, answer.place, n);
   }
   printf("match:");
   for (size_t dart = 1; dart <= map.m; dart++) {

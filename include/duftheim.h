@@ -27,8 +27,8 @@
      Time        Every call returns; there is no bound in seconds. Instructions were counted: for a signature 6 thousand with 7
                  darts, 0.1 to 0.4 million for most layouts of the largest size, rings, grids and tori among them, and 13
                  million for the slowest layout tried, a ring of 510 darts with one mark; for a match at most 37 million. A drawer
-                 check judges every record, and so do search and filing each time: 73 million for 1,024 random layouts of 258
-                 darts on the mean, 97 million for rings of 1 to 1,020 darts, but 380 million for 64 rings with marks, the slowest
+                 check judges every record, and so do search and filing each time: 72 million for 1,024 random layouts of 258
+                 darts on the mean, 96 million for rings of 1 to 1,020 darts, but 380 million for 64 rings with marks, the slowest
                  drawer tried. docs/SPEED.md has all figures.
      Answers     are handed back by value. The bytes between the members of a struct are not written: compare members.
 
@@ -43,20 +43,20 @@
 #include <stdint.h>
 
 /* The first number grows when a program that was right may no longer be, the second with new calls, the third with the rest. */
-#define DUFTHEIM_VERSION "1.0.0"
-#define DUFTHEIM_VERSION_MAJOR 1
+#define DUFTHEIM_VERSION "2.0.0"
+#define DUFTHEIM_VERSION_MAJOR 2
 #define DUFTHEIM_VERSION_MINOR 0
 #define DUFTHEIM_VERSION_PATCH 0
 
 /* The stack that each call needs, in bytes, with its own return address. What memcpy and memset need beyond theirs comes on top,
    and so does what an interrupt pushes. */
-#define DUFTHEIM_STACK_CHECK 6432
-#define DUFTHEIM_STACK_JUDGE 6464
-#define DUFTHEIM_STACK_MATCH 12640
-#define DUFTHEIM_STACK_SIGNATURE 18912
-#define DUFTHEIM_STACK_DRAWER_CHECK 16848
-#define DUFTHEIM_STACK_FILE 23040
-#define DUFTHEIM_STACK_SEARCH 23056
+#define DUFTHEIM_STACK_CHECK 6448
+#define DUFTHEIM_STACK_JUDGE 6480
+#define DUFTHEIM_STACK_MATCH 12656
+#define DUFTHEIM_STACK_SIGNATURE 18928
+#define DUFTHEIM_STACK_DRAWER_CHECK 16864
+#define DUFTHEIM_STACK_FILE 23056
+#define DUFTHEIM_STACK_SEARCH 23072
 
 /* Bytes of a record, and records of a full drawer. */
 #define DUFTHEIM_RECORD_SIZE 2048
@@ -66,8 +66,12 @@
 extern "C" {
 #endif
 
-/* What the display shows where a call refuses: an answer's `number`, and where it is wrong, its `place`. The place is the least
-   dart or record that is meant, and 0 where none is named. In a refused answer every other number is 0.
+/* What the display shows where a call refuses: an answer's `number`, and where it is wrong, its `place`. The place counts entries
+   of the table, darts or records, from 1, and is the least that is meant; it is 0 where none is named. In a refused answer every
+   other number is 0.
+
+   With 5 to 8 it is the place of a wrong entry, a number of the table. Place p is table[p - 1]: the i-th number of dart d, where
+   i is (p - 1) % n + 1, and d is (p - 1) / n + 1. With 25 to 28 it is second_table[p - 1], and n is second_n.
 
    Of one layout the lowest number that applies is given. A call with two layouts judges the first, then the second, whose
    numbers are DUFTHEIM_OF_SECOND higher, and after both come 10, 11 and 12. A call with a layout and a drawer judges the layout
@@ -78,10 +82,10 @@ enum duftheim_number {
   DUFTHEIM_WRONG_SIZE = 2,       /* m is 0, or n * m is above 1,020; no place */
   DUFTHEIM_WRONG_LENGTH = 3,     /* the table has not n * m numbers; no place */
   DUFTHEIM_SHORT_OUTPUT = 4,     /* the output is shorter than n * m or, for the match, m; no place */
-  DUFTHEIM_NO_SUCH_DART = 5,     /* a number of the table is above m; its dart */
-  DUFTHEIM_SEWN_TWICE = 6,       /* a dart is 1-sewn to what a lower dart is 1-sewn to; the dart */
-  DUFTHEIM_NOT_SEWN_BACK = 7,    /* an i-sewing, i from 2, does not lead back; the dart */
-  DUFTHEIM_SEWINGS_PART = 8,     /* two sewings in turn, and again, do not lead back; the dart */
+  DUFTHEIM_NO_SUCH_DART = 5,     /* an entry of the table is above m; the entry */
+  DUFTHEIM_SEWN_TWICE = 6,       /* a dart is 1-sewn to what a lower dart is 1-sewn to; its entry, not the lower one's */
+  DUFTHEIM_NOT_SEWN_BACK = 7,    /* an i-sewing, i from 2, does not lead back; its entry, which is not 0 */
+  DUFTHEIM_SEWINGS_PART = 8,     /* a j-sewing, an i-sewing, i <= j - 2, and both again do not lead back; the j-sewing's entry */
   DUFTHEIM_NOT_CONNECTED = 9,    /* a dart cannot be reached from dart 1; the dart */
   DUFTHEIM_NO_MATCHING = 10,     /* the layouts differ in n or m, or have no matching; no place */
   DUFTHEIM_BAD_LIST = 11,        /* the list has not m numbers: no place; or one is 0, above m or used before: its dart */

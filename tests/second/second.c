@@ -1,4 +1,4 @@
-// The calls of document 01 written a second time, straight from its sentences.
+// The calls of document 01 with wish 1 of document 02, written a second time, straight from their sentences.
 // Rules are loops over darts, words are built whole before they are compared.
 #include "second.h"
 #include "second_inside.h"
@@ -52,42 +52,49 @@ static struct second_verdict judge_bounds(uint64_t n, uint64_t m) {
   return accepted();
 }
 
-static uint16_t entry(struct second_map map, unsigned i, unsigned dart) {
-  return map.table[(dart - 1) * map.n + i - 1];
+// Where beta i of a dart stands in a table, counted from 1.
+static unsigned place_of(uint64_t n, unsigned i, unsigned dart) {
+  return (unsigned)((dart - 1) * n + i);
 }
 
-// Each rule below answers the least dart that breaks it, or 0.
+static uint16_t entry(struct second_map map, unsigned i, unsigned dart) {
+  return map.table[place_of(map.n, i, dart) - 1];
+}
 
-static unsigned dart_with_high_entry(struct second_map map) {
+// Each rule below answers the place of the least entry that breaks it, or 0. Places ascend by dart, and for one dart by sewing.
+
+static unsigned place_of_high_entry(struct second_map map) {
   for (unsigned dart = 1; dart <= map.m; dart++) {
     for (unsigned i = 1; i <= map.n; i++) {
       if (entry(map, i, dart) > map.m) {
-        return dart;
+        return place_of(map.n, i, dart);
       }
     }
   }
   return 0;
 }
 
-static unsigned dart_with_clash(const struct sewings *sewn) {
+// Of two darts that clash, the beta1 of the higher one is wrong.
+static unsigned place_of_clash(const struct sewings *sewn) {
   for (unsigned dart = 1; dart <= sewn->m; dart++) {
     unsigned given = sewn->beta[1][dart];
     for (unsigned lower = 1; lower < dart; lower++) {
       // Any number of darts may be unsewn.
       if (given != 0 && sewn->beta[1][lower] == given) {
-        return dart;
+        return place_of(sewn->n, 1, dart);
       }
     }
   }
   return 0;
 }
 
-static unsigned dart_not_answered(const struct sewings *sewn) {
+// Wrong is the entry that is sewn and gets no answer, never the unsewn one that gives none.
+static unsigned place_not_answered(const struct sewings *sewn) {
   for (unsigned dart = 1; dart <= sewn->m; dart++) {
     for (unsigned i = 2; i <= sewn->n; i++) {
       unsigned other = sewn->beta[i][dart];
       if (other != 0 && sewn->beta[i][other] != dart) {
-        return dart;
+        return place_of(sewn->n, i, dart);
       }
     }
   }
@@ -98,13 +105,14 @@ static unsigned composed(const struct sewings *sewn, unsigned i, unsigned j, uns
   return sewn->beta[i][sewn->beta[j][dart]];
 }
 
-static unsigned dart_with_bad_composition(const struct sewings *sewn) {
+// The wrong entry is beta j of the dart, so the least j counts, whatever i.
+static unsigned place_composed_badly(const struct sewings *sewn) {
   for (unsigned dart = 1; dart <= sewn->m; dart++) {
-    for (unsigned i = 1; i + 2 <= sewn->n; i++) {
-      for (unsigned j = i + 2; j <= sewn->n; j++) {
+    for (unsigned j = 3; j <= sewn->n; j++) {
+      for (unsigned i = 1; i + 2 <= j; i++) {
         unsigned other = composed(sewn, i, j, dart);
         if (other != 0 && composed(sewn, i, j, other) != dart) {
-          return dart;
+          return place_of(sewn->n, j, dart);
         }
       }
     }
@@ -132,8 +140,8 @@ static void join(uint16_t *head, unsigned one, unsigned other) {
   head[other] = (uint16_t)low;
 }
 
-// Every sewing can be walked back (beta1 by beta0, the others by themselves), so the darts reached from dart 1 are the darts
-// joined with it.
+// Answers the least dart, and no place in the table. Every sewing can be walked back (beta1 by beta0, the others by
+// themselves), so the darts reached from dart 1 are the darts joined with it.
 static unsigned dart_not_reached(const struct sewings *sewn) {
   uint16_t head[MOST_NUMBERS + 1];
   for (unsigned dart = 0; dart <= sewn->m; dart++) {
@@ -169,30 +177,30 @@ static void read_sewings(struct second_map map, struct sewings *sewn) {
   sewn->beta[0][0] = 0;
 }
 
-// The rules of 6 to 9 in their order.
+// The rules of 6 to 9 in their order, each with what it answers as the place.
 struct rule {
   unsigned number;
   unsigned (*broken_at)(const struct sewings *sewn);
 };
 
 static const struct rule rules[] = {
-    {6, dart_with_clash},
-    {7, dart_not_answered},
-    {8, dart_with_bad_composition},
+    {6, place_of_clash},
+    {7, place_not_answered},
+    {8, place_composed_badly},
     {9, dart_not_reached},
 };
 
 // Judges 5 to 9 of a map of accepted size; the sewings are whole where it is accepted.
 static struct second_verdict judge_sewings(struct second_map map, struct sewings *sewn) {
-  unsigned dart = dart_with_high_entry(map);
-  if (dart != 0) {
-    return refused(5, dart);
+  unsigned place = place_of_high_entry(map);
+  if (place != 0) {
+    return refused(5, place);
   }
   read_sewings(map, sewn);
   for (size_t at = 0; at < sizeof rules / sizeof rules[0]; at++) {
-    dart = rules[at].broken_at(sewn);
-    if (dart != 0) {
-      return refused(rules[at].number, dart);
+    place = rules[at].broken_at(sewn);
+    if (place != 0) {
+      return refused(rules[at].number, place);
     }
   }
   return accepted();

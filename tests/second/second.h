@@ -1,4 +1,4 @@
-// The calls of document 01, answered by a second program that shares nothing with the library.
+// The calls of document 01 with wish 1 of document 02, answered by a second program that shares nothing with the library.
 #ifndef SECOND_H
 #define SECOND_H
 

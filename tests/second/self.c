@@ -1,5 +1,5 @@
-// Checks second.c against answers worked out by hand from document 01 and the paper's examples. Prints every failure, and as
-// last line how many checks passed and failed.
+// Checks second.c against answers worked out by hand from document 01, wish 1 of document 02 and the paper's examples. Prints
+// every failure, and as last line how many checks passed and failed.
 #include <inttypes.h>
 #include <stdlib.h>
 #include <string.h>
@@ -396,6 +396,13 @@ static void map_refused(const char *what, struct second_map map, unsigned number
   add_to(what, 9, map, 0, drawer, RECORD, ANSWER(number, place), NULL);
 }
 
+// Each has a single wrong entry, and that is one of dart 2: beta3 above m, beta1 of two darts taken to dart 3, beta2 not
+// answered, and beta4, after which beta2 leads to dart 4, and both once more to nothing.
+static const struct second_map late_high = {3, 2, NUMBERS(0, 0, 0, 0, 0, 3)};
+static const struct second_map late_clash = {3, 3, NUMBERS(3, 0, 0, 3, 0, 0, 0, 0, 0)};
+static const struct second_map late_unanswered = {2, 2, NUMBERS(0, 0, 0, 1)};
+static const struct second_map late_composition = {4, 4, NUMBERS(0, 0, 0, 0, 0, 0, 0, 3, 0, 4, 0, 2, 0, 3, 0, 0)};
+
 static void check_refused_maps(void) {
   map_refused("n of 0", MAP(0, 1, 0), 1, 0);
   map_refused("n of 5", MAP(5, 1, 0, 0, 0, 0, 0), 1, 0);
@@ -418,24 +425,144 @@ static void check_refused_maps(void) {
   map_refused("3 comes before 5", MAP(2, 2, 9), 3, 0);
   map_refused("case H", MAP(2, 2, 3, 0, 1, 0), 5, 1);
   map_refused("an entry of 65,535", MAP(1, 2, 2, 65535), 5, 2);
-  map_refused("5 at the least dart of all sewings", MAP(2, 2, 0, 3, 3, 0), 5, 1);
+  map_refused("5 in a later sewing of an earlier dart", MAP(2, 2, 0, 3, 3, 0), 5, 2);
+  map_refused("5 in the last entry", late_high, 5, 6);
   map_refused("5 comes before 6", MAP(1, 3, 2, 2, 4), 5, 3);
   map_refused("case I", MAP(1, 2, 1, 1), 6, 2);
   map_refused("6 at the least of the higher darts", MAP(1, 4, 3, 2, 2, 3), 6, 3);
-  map_refused("6 comes before 7", MAP(2, 3, 1, 2, 0, 0, 1, 0), 6, 3);
-  map_refused("case J", MAP(2, 2, 0, 2, 0, 0), 7, 1);
-  map_refused("7 at the dart not answered", MAP(2, 2, 0, 0, 0, 1), 7, 2);
-  map_refused("7 at the least dart of all sewings", MAP(3, 2, 0, 0, 2, 0, 1, 0), 7, 1);
-  map_refused("7 where a third dart answers", MAP(2, 3, 2, 2, 3, 3, 1, 2), 7, 1);
-  map_refused("7 comes before 8", MAP(3, 4, 0, 0, 2, 3, 0, 1, 0, 0, 0, 0, 3, 0), 7, 4);
-  map_refused("case L", MAP(3, 3, 0, 0, 2, 3, 0, 1, 0, 0, 0), 8, 1);
-  map_refused("8 at the least dart of all pairs",
-              MAP(4, 6, 0, 0, 0, 2, 0, 3, 0, 1, 0, 2, 0, 0, 0, 0, 5, 0, 6, 0, 4, 0, 0, 0, 0, 0), 8, 1);
-  map_refused("8 of beta1 and beta4", MAP(4, 3, 0, 0, 0, 2, 3, 0, 0, 1, 0, 0, 0, 0), 8, 1);
-  map_refused("8 comes before 9", MAP(3, 5, 0, 0, 0, 0, 0, 0, 0, 0, 4, 5, 0, 3, 0, 0, 0), 8, 3);
+  map_refused("6 at neither the lower dart nor the one given", late_clash, 6, 4);
+  map_refused("6 comes before 7", MAP(2, 3, 1, 2, 0, 0, 1, 0), 6, 5);
+  map_refused("case J", MAP(2, 2, 0, 2, 0, 0), 7, 2);
+  map_refused("7 at the entry not answered, not at the 0 that does not answer", late_unanswered, 7, 4);
+  map_refused("7 in a later sewing of an earlier dart", MAP(3, 2, 0, 0, 2, 0, 1, 0), 7, 3);
+  map_refused("7 where a third dart answers", MAP(2, 3, 2, 2, 3, 3, 1, 2), 7, 2);
+  map_refused("7 comes before 8", MAP(3, 4, 0, 0, 2, 3, 0, 1, 0, 0, 0, 0, 3, 0), 7, 11);
+  map_refused("case L", MAP(3, 3, 0, 0, 2, 3, 0, 1, 0, 0, 0), 8, 3);
+  map_refused("8 of beta1 and beta4", MAP(4, 3, 0, 0, 0, 2, 3, 0, 0, 1, 0, 0, 0, 0), 8, 4);
+  map_refused("8 of beta2 and beta4", late_composition, 8, 8);
+  map_refused("8 at beta3 before beta4 of the same dart",
+              MAP(4, 5, 0, 0, 2, 3, 4, 0, 1, 0, 5, 0, 0, 1, 0, 0, 0, 0, 0, 0, 0, 0), 8, 3);
+  map_refused("8 of beta1 and beta4 before beta1 and beta3 of a later dart",
+              MAP(4, 6, 0, 0, 0, 2, 3, 0, 0, 1, 0, 0, 0, 0, 0, 0, 5, 0, 6, 0, 4, 0, 0, 0, 0, 0), 8, 4);
+  map_refused("8 of beta2 and beta4 before beta1 and beta3 of a later dart",
+              MAP(4, 6, 0, 0, 0, 2, 0, 3, 0, 1, 0, 2, 0, 0, 0, 0, 5, 0, 6, 0, 4, 0, 0, 0, 0, 0), 8, 4);
+  map_refused("8 comes before 9", MAP(3, 5, 0, 0, 0, 0, 0, 0, 0, 0, 4, 5, 0, 3, 0, 0, 0), 8, 9);
   map_refused("case K", MAP(1, 2, 1, 2), 9, 2);
   map_refused("9 at the least dart not reached", MAP(1, 4, 2, 1, 4, 3), 9, 3);
   map_refused("9 between reached darts", MAP(2, 4, 0, 4, 0, 3, 0, 2, 0, 1), 9, 2);
+}
+
+static void second_refused(const char *what, struct second_map first, struct second_map second, unsigned number,
+                           uint64_t place) {
+  match_to(what, first, second, MOST, ANSWER(number, place), NOTHING);
+  judge_gives(what, first, second, number, place, NOTHING);
+}
+
+// A place counts in the table of the map that is refused, whatever n the other map has.
+static void check_second_refused(void) {
+  second_refused("25 with n of 3 against 1", case_c, late_high, 25, 6);
+  second_refused("25 with n of 3 against 4", MAP(4, 1, 0, 0, 0, 0), late_high, 25, 6);
+  second_refused("26 with n of 3 against 1", case_c, late_clash, 26, 4);
+  second_refused("26 with n of 3 against 2", case_e, late_clash, 26, 4);
+  second_refused("27 with n of 2 against 1", case_c, late_unanswered, 27, 4);
+  second_refused("27 with n of 2 against 3", case_m, late_unanswered, 27, 4);
+  second_refused("28 with n of 4 against 1", case_c, late_composition, 28, 8);
+  second_refused("28 with n of 4 against 3", case_m, late_composition, 28, 8);
+  second_refused("the first of two refused, n of 4 against 3", late_composition, late_clash, 8, 8);
+}
+
+// ---- What the base showed ----
+
+static bool clashes(const struct map *map, uint64_t d) {
+  for (uint64_t lower = 1; lower < d; lower++) {
+    if (beta(map, 1, d) != 0 && beta(map, 1, lower) == beta(map, 1, d)) {
+      return true;
+    }
+  }
+  return false;
+}
+
+static bool composes_badly(const struct map *map, uint64_t j, uint64_t d) {
+  for (uint64_t i = 1; i + 2 <= j; i++) {
+    uint64_t e = beta(map, i, beta(map, j, d));
+    if (e != 0 && beta(map, i, beta(map, j, e)) != d) {
+      return true;
+    }
+  }
+  return false;
+}
+
+// Whether beta i of d breaks the rule of a number from 5 to 8. All rules before it must be kept.
+static bool entry_breaks(const struct map *map, unsigned number, uint64_t i, uint64_t d) {
+  uint64_t e = beta(map, i, d);
+  switch (number) {
+  case 5:
+    return e > map->m;
+  case 6:
+    return i == 1 && clashes(map, d);
+  case 7:
+    return i >= 2 && e != 0 && beta(map, i, e) != d;
+  default:
+    return composes_badly(map, i, d);
+  }
+}
+
+// The first entry of a dart that breaks the rule, or 0.
+static uint64_t sewing_that_breaks(const struct map *map, unsigned number, uint64_t d) {
+  for (uint64_t i = 1; i <= map->n; i++) {
+    if (entry_breaks(map, number, i, d)) {
+      return i;
+    }
+  }
+  return 0;
+}
+
+// What document 01 shows: the first rule broken, at the least dart that breaks it by any entry. Number 0 where none is.
+static struct second_verdict shown_by_base(const struct map *map) {
+  for (unsigned number = 5; number <= 8; number++) {
+    for (uint64_t d = 1; d <= map->m; d++) {
+      if (sewing_that_breaks(map, number, d) != 0) {
+        return (struct second_verdict){number, d};
+      }
+    }
+  }
+  return (struct second_verdict){0, 0};
+}
+
+// The base's dart can be read off the place, and the rest of the place is the first entry of that dart that breaks the rule.
+static bool dart_can_be_read(const struct map *map) {
+  struct second_verdict base = shown_by_base(map);
+  struct second_verdict got = second_check(map_lent(map));
+  if (base.number == 0) {
+    return got.number == 0 || got.number == 9;
+  }
+  return got.number == base.number && got.place >= 1 && (got.place - 1) / map->n + 1 == base.place &&
+         (got.place - 1) % map->n + 1 == sewing_that_breaks(map, base.number, base.place);
+}
+
+// Every table with entries up to `most`.
+static void every_dart_can_be_read(const char *what, uint64_t n, uint64_t m, uint16_t most) {
+  struct map map = map_empty(n, m);
+  uint64_t otherwise = 0;
+  do {
+    otherwise += !dart_can_be_read(&map);
+  } while (next_table(&map, most));
+  expect("the dart of every place", what, ANSWER(0), ANSWER(otherwise));
+}
+
+static void check_against_base(void) {
+  every_dart_can_be_read("n=1 m=1", 1, 1, 2);
+  every_dart_can_be_read("n=1 m=2", 1, 2, 3);
+  every_dart_can_be_read("n=1 m=3", 1, 3, 4);
+  every_dart_can_be_read("n=1 m=4", 1, 4, 5);
+  every_dart_can_be_read("n=2 m=1", 2, 1, 2);
+  every_dart_can_be_read("n=2 m=2", 2, 2, 3);
+  every_dart_can_be_read("n=2 m=3", 2, 3, 4);
+  every_dart_can_be_read("n=3 m=1", 3, 1, 2);
+  every_dart_can_be_read("n=3 m=2", 3, 2, 3);
+  every_dart_can_be_read("n=3 m=3", 3, 3, 3);
+  every_dart_can_be_read("n=4 m=1", 4, 1, 2);
+  every_dart_can_be_read("n=4 m=2", 4, 2, 3);
 }
 
 // ---- A drawer's life ----
@@ -675,11 +802,16 @@ static void check_list(void) {
   list_one("case G", 5, case_g, "5 2 7 1 1\n");
   list_one("case H", 8, case_h, "8 refused 5 1\n");
   list_one("case I", 8, case_i, "8 refused 6 2\n");
-  list_one("case J", 8, case_j, "8 refused 7 1\n");
+  list_one("case J", 8, case_j, "8 refused 7 2\n");
   list_one("case K", 8, case_k, "8 refused 9 2\n");
-  list_one("case L", 8, case_l, "8 refused 8 1\n");
+  list_one("case L", 8, case_l, "8 refused 8 3\n");
   list_one("case M", 8, case_m, "8 3 3 1 1\n");
   list_one("die 0", 0, case_f, "0 refused 14 1\n");
+  // Places above the first dart's.
+  list_one("5 in the last entry", 8, late_high, "8 refused 5 6\n");
+  list_one("6 at a higher dart", 8, late_clash, "8 refused 6 4\n");
+  list_one("7 at a higher dart", 8, late_unanswered, "8 refused 7 4\n");
+  list_one("8 at a higher dart", 8, late_composition, "8 refused 8 8\n");
   // Bounds.
   list_one("n of 0", 6, ZEROS(0, 1, 1), "6 refused 1 0\n");
   list_one("n of 5", 6, ZEROS(5, 1, 5), "6 refused 1 0\n");
@@ -735,6 +867,8 @@ int main(void) {
   check_sizes();
   check_shapes();
   check_refused_maps();
+  check_second_refused();
+  check_against_base();
   check_match();
   check_judge();
   check_life();

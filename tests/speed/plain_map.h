@@ -17,27 +17,32 @@ struct map {
   const uint16_t *table;
 };
 
-// Beta i of a dart or of 0, for i from 1 to n.
-static size_t sewn_to(const struct map *map, size_t i, size_t dart) {
-  return dart == 0 ? 0 : map->table[(dart - 1) * map->n + i - 1];
+// Where beta i of a dart stands in the table, counted from 1.
+static size_t place_of(const struct map *map, size_t i, size_t dart) {
+  return (dart - 1) * map->n + i;
 }
 
-// Each rule below answers the least dart that breaks it, or 0.
+// Beta i of a dart or of 0, for i from 1 to n.
+static size_t sewn_to(const struct map *map, size_t i, size_t dart) {
+  return dart == 0 ? 0 : map->table[place_of(map, i, dart) - 1];
+}
 
-static size_t dart_with_high_entry(const struct map *map) {
+// Each rule below answers the place of the least entry that breaks it, or 0.
+
+static size_t place_of_high_entry(const struct map *map) {
   for (size_t dart = 1; dart <= map->m; dart++) {
     const uint16_t *row = map->table + (dart - 1) * map->n;
-    for (size_t i = 0; i < map->n; i++) {
-      if (row[i] > map->m) {
-        return dart;
+    for (size_t i = 1; i <= map->n; i++) {
+      if (row[i - 1] > map->m) {
+        return place_of(map, i, dart);
       }
     }
   }
   return 0;
 }
 
-// Fills beta0 on the way: a place that is filled already is a clash.
-static size_t dart_with_clash(const struct map *map, uint16_t *beta0) {
+// Fills beta0 on the way: what is filled already is a clash.
+static size_t place_of_clash(const struct map *map, uint16_t *beta0) {
   memset(beta0, 0, map->m * sizeof beta0[0]);
   for (size_t dart = 1; dart <= map->m; dart++) {
     size_t next = map->table[(dart - 1) * map->n];
@@ -45,32 +50,33 @@ static size_t dart_with_clash(const struct map *map, uint16_t *beta0) {
       continue;
     }
     if (beta0[next - 1] != 0) {
-      return dart;
+      return place_of(map, 1, dart);
     }
     beta0[next - 1] = (uint16_t)dart;
   }
   return 0;
 }
 
-static size_t dart_not_answered(const struct map *map) {
+static size_t place_not_answered(const struct map *map) {
   for (size_t dart = 1; dart <= map->m; dart++) {
     for (size_t i = 2; i <= map->n; i++) {
       size_t other = sewn_to(map, i, dart);
       if (other != 0 && sewn_to(map, i, other) != dart) {
-        return dart;
+        return place_of(map, i, dart);
       }
     }
   }
   return 0;
 }
 
-static size_t dart_with_bad_composition(const struct map *map) {
+// The place is that of beta j.
+static size_t place_composed_badly(const struct map *map) {
   for (size_t dart = 1; dart <= map->m; dart++) {
-    for (size_t i = 1; i + 2 <= map->n; i++) {
-      for (size_t j = i + 2; j <= map->n; j++) {
+    for (size_t j = 3; j <= map->n; j++) {
+      for (size_t i = 1; i + 2 <= j; i++) {
         size_t other = sewn_to(map, i, sewn_to(map, j, dart));
         if (other != 0 && sewn_to(map, i, sewn_to(map, j, other)) != dart) {
-          return dart;
+          return place_of(map, j, dart);
         }
       }
     }
@@ -112,7 +118,7 @@ static inline void forget(struct labelling *labelling) {
   labelling->length = 0;
 }
 
-// Leaves the labelling from dart 1 behind, as far as it came.
+// The least dart that is not reached, or 0. Leaves the labelling from dart 1 behind, as far as it came.
 static size_t dart_not_reached(const struct map *map, const uint16_t *beta0, struct labelling *labelling) {
   visit(labelling, 1);
   for (size_t k = 0; k < labelling->length; k++) {
@@ -156,24 +162,24 @@ static struct duftheim_verdict judge(struct map map, size_t table_length, size_t
   if (out_length < needed) {
     return refused(4, 0);
   }
-  size_t dart = dart_with_high_entry(&map);
-  if (dart != 0) {
-    return refused(5, dart);
+  size_t place = place_of_high_entry(&map);
+  if (place != 0) {
+    return refused(5, place);
   }
-  dart = dart_with_clash(&map, beta0);
-  if (dart != 0) {
-    return refused(6, dart);
+  place = place_of_clash(&map, beta0);
+  if (place != 0) {
+    return refused(6, place);
   }
-  dart = dart_not_answered(&map);
-  if (dart != 0) {
-    return refused(7, dart);
+  place = place_not_answered(&map);
+  if (place != 0) {
+    return refused(7, place);
   }
-  dart = dart_with_bad_composition(&map);
-  if (dart != 0) {
-    return refused(8, dart);
+  place = place_composed_badly(&map);
+  if (place != 0) {
+    return refused(8, place);
   }
   begin(&map, labelling);
-  dart = dart_not_reached(&map, beta0, labelling);
+  size_t dart = dart_not_reached(&map, beta0, labelling);
   if (dart != 0) {
     return refused(9, dart);
   }

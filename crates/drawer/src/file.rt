@@ -16,7 +16,7 @@ use crate::check::first_with_layout;
 use crate::write::make_record;
 use maps::Judged;
 
-// The answer of filing: the new count; or document 01's number and place.
+// The answer of filing: the new count; or the display's number and place.
 pub enum Filing {
     Filed { count: usize },
     Refused { number: u32, place: usize },

@@ -10,7 +10,7 @@ use crate::fields::die_of;
 use crate::write::make_record;
 use maps::Judged;
 
-// The answer of search: the die number and the record number; or document 01's number and place.
+// The answer of search: the die number and the record number; or the display's number and place.
 pub enum Search {
     Found { die: u32, at: usize },
     Refused { number: u32, place: usize },

@@ -52,7 +52,7 @@ fn write_record(filed: &mut [u8; 2048], die: u32, n: usize, m: usize, word: &[u1
     put_word(filed, word, n * m);
 }
 
-// The record of a die and of the signature of a map, or document 01's number and place.
+// The record of a die and of the signature of a map, or the display's number and place.
 pub(crate) fn make_record(
     die: u32,
     n: usize,

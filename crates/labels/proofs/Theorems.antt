@@ -4,8 +4,9 @@ use native.Mathlib.Omega.{arith}
 use Rattle.maps.specs.Lines.{shapeLines, roomLines, entryLines, mapLines, tableLines, checkLines}
 use Rattle.maps.specs.Rules.{judgeOutput}
 use Rattle.maps.proofs.Lines.{hasNumber, shows-without, shows-most}
+use Rattle.maps.proofs.Base.{base-shows}
 use Rattle.labels.specs.Judging.{checkAnswer}
-use Rattle.labels.specs.Theorems.{QueueDarts, LabelledReached, AllLabelled, CheckAccepts, TableShows, CheckShows, CheckNumbers}
+use Rattle.labels.specs.Theorems.{QueueDarts, LabelledReached, AllLabelled, CheckAccepts, TableShows, CheckShows, CheckNumbers, BaseReadOff}
 use Rattle.labels.proofs.Queue.{labelling-queue, labelling-closed, queue-zero}
 use Rattle.labels.proofs.Reached.{labelled-reached, reached-labelled, labelling-numbers}
 use Rattle.labels.proofs.Judging.{table-shows, table-clear, clear-table}
@@ -45,3 +46,7 @@ check-shows g = table-shows _ g
 pub check-numbers : CheckNumbers
 unfolding CheckNumbers checkLines tableLines shapeLines roomLines mapLines entryLines hasNumber CheckShows
 check-numbers g = (shows-most 9 (check-shows g) (omega arith), shows-without 4 (omega arith) refl (check-shows g))
+
+pub base-read-off : BaseReadOff
+unfolding BaseReadOff
+base-read-off o g = base-shows o g (table-shows o g)

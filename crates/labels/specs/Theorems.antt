@@ -6,6 +6,7 @@
 --     TableShows         10: the answer of a call on one table is what its lines show
 --     CheckShows         10: the same for the plain check
 --     CheckNumbers       the plain check never gives 4, and no number above 9
+--     BaseReadOff        02, wish 1: of every answer on one table the one that 01 alone asks for can be read off
 -- Assumes nothing.
 use Prim.Native.Nat.{ℕ, _*_, _≤_, _<_}
 use mathlib.Core.Path.{_≡_}
@@ -17,6 +18,7 @@ use Rattle.maps.specs.Accepted.{ToDarts, Path, Accepted}
 use Rattle.maps.specs.Given.{Given, mapOf}
 use Rattle.maps.specs.Verdict.{accepted}
 use Rattle.maps.specs.Lines.{Shows, tableLines, checkLines}
+use Rattle.maps.specs.Base.{baseLines, readOff}
 use Rattle.maps.specs.declared.Output.{Output}
 use Rattle.labels.specs.Queue.{labelIn, labelling}
 use Rattle.labels.specs.Judging.{tableAnswer, checkAnswer}
@@ -49,3 +51,7 @@ CheckShows = (g : Given) → Shows (checkLines g) (checkAnswer g)
 
 unfoldable pub CheckNumbers : Type 0
 CheckNumbers = (g : Given) → (checkAnswer g .number ≤ 9) × (¬ (checkAnswer g .number ≡ 4))
+
+-- the dart of the entry shown is the dart that 01 shows, and all else is as it was
+unfoldable pub BaseReadOff : Type 1
+BaseReadOff = (o : Output) (g : Given) → Shows (baseLines o g) (readOff (g .n) (tableAnswer o g))

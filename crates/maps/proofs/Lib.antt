@@ -9,4 +9,5 @@ pub mod Given
 pub mod Verdict
 pub mod Rules
 pub mod Lines
+pub mod Base
 pub mod Answer

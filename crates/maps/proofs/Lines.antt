@@ -27,16 +27,16 @@ use lib.ListN.{length}
 use Rattle.maps.specs.Least.{least, some}
 use Rattle.maps.specs.Map.{Map, sew}
 use Rattle.maps.specs.Accepted.{InBounds, OpenMap}
-use Rattle.maps.specs.Given.{Given, mapOf, Shaped}
+use Rattle.maps.specs.Given.{Given, placeOf, mapOf, Shaped}
 use Rattle.maps.specs.Verdict.{Verdict, accepted, refused, accepts, unless, atLeast, inOrder, ofSecond}
 use Rattle.maps.specs.Lines.{Line, Silent, Shows, none, here, on, plain, raised, shapeLines, roomLines, Entry, Exceeds, GivenBefore, Unanswered, Parted, entryLine, entryLines}
-use Rattle.maps.specs.Rules.{judgeDimension, judgeSize, judgeLength, judgeShape, judgeOutput, Rule, exceeds, givenBefore, unanswered, parted, composesWrong, overRule, clashRule, reverseRule, composeRule, rules, judgedBy, judgeEntries, judgeSewing}
+use Rattle.maps.specs.Rules.{judgeDimension, judgeSize, judgeLength, judgeShape, judgeOutput, Rule, exceeds, givenBefore, unanswered, parted, composesWrong, overRule, clashRule, reverseRule, composeRule, rules, wrongEntry, shownPlace, judgedBy, judgeEntries, judgeSewing}
 use Rattle.maps.specs.declared.Output.{Output}
 use Rattle.maps.specs.declared.Output.the-variants.{Nothing, Word, Images}
 use Rattle.maps.proofs.Least.{Tested, passes, fails, tested, true-not-false, Sought, nowhere, somewhere, sought, Found, some-found, passes-some}
 use Rattle.maps.proofs.Map.{back-dart, sewn-dart, sewn-low}
 use Rattle.maps.proofs.Verdict.{refused-refuses, inOrder-first, unless-passed, unless-refused}
-use Rattle.maps.proofs.Rules.{atDart, wrongDart, judgedBy-dart}
+use Rattle.maps.proofs.Rules.{atPlace, place-says}
 
 -- two least places of one line are one
 least-only : (P : ℕ → Type 0) (p q : ℕ) → P p → ((r : ℕ) → r < p → ¬ P r) → P q → ((r : ℕ) → r < q → ¬ P r) → p ≡ q
@@ -295,18 +295,14 @@ module _ (M : Map) (d i : ℕ) where
 module _ (M : Map) (dim : 1 ≤ M .dim) where
   -- a rule's verdict is what its line shows
   rule-shows : (r : Rule) (Breaks : Map → ℕ → ℕ → Type 0) → 1 ≤ r .number → ((d i : ℕ) → (r .broken M d i ≡ true) ↔ Breaks M d i) → Shows (entryLine M (r .number) Breaks ∷ []) (judgedBy M r)
-  unfolding wrongDart
-  rule-shows r Breaks low says =
-      rw (judgedBy-dart M r dim) (shows-least (entryLine M (r .number) Breaks) (M .darts) (atDart M r) low (λ d. (to d, back d)))
+  unfolding judgedBy shownPlace wrongEntry atLeast
+  rule-shows r Breaks low says = shows-least (entryLine M (r .number) Breaks) (M .dim * M .darts) (atPlace M r) low (λ p. (to p, back p))
     where
-      to : (d : ℕ) → entryLine M (r .number) Breaks .Holds d → (1 ≤ d) × (d ≤ M .darts) × (atDart M r d ≡ true)
-      to d (i, e, b) = (e .0 .0, e .0 .1, passes-some (λ j. r .broken M d j) (M .dim) i (e .1) (e .2) (says d i .1 b))
+      to : (p : ℕ) → entryLine M (r .number) Breaks .Holds p → (1 ≤ p) × (p ≤ M .dim * M .darts) × (atPlace M r p ≡ true)
+      to p (d, i, e, is, b) = place-says M r dim p .0 (d, i, e, is, says d i .1 b)
 
-      back : (d : ℕ) → (1 ≤ d) × (d ≤ M .darts) × (atDart M r d ≡ true) → entryLine M (r .number) Breaks .Holds d
-      back d h =
-          let i = least (M .dim) (λ i. r .broken M d i) in
-          let f = some-found (λ i. r .broken M d i) (M .dim) (h .2) in
-          (i, ((h .0, h .1), f .low, f .high), says d i .0 (f .hit))
+      back : (p : ℕ) → (1 ≤ p) × (p ≤ M .dim * M .darts) × (atPlace M r p ≡ true) → entryLine M (r .number) Breaks .Holds p
+      back p h = let (d, i, e, is, b) = place-says M r dim p .1 h in (d, i, e, is, says d i .0 b)
 
   pub entries-shows : Shows (entryLines M) (judgeEntries M)
   unfolding entryLines judgeEntries rules
@@ -325,17 +321,17 @@ sewn-entry M i d low sewn = (sewn-dart M i d sewn, low, sewn-low M i d sewn)
 module _ (M : Map) (a : Silent (entryLine M 5 Exceeds)) (b : Silent (entryLine M 6 GivenBefore)) (c : Silent (entryLine M 7 Unanswered)) (e : Silent (entryLine M 8 Parted)) where
   silent-5 : (i d : ℕ) → ¬ (M .darts < sew M i d)
   silent-5 zero d over = omega (arith, back-dart M d)
-  silent-5 (suc i) d over = a d (suc i, sewn-entry M (suc i) d (omega arith) (omega arith), over)
+  silent-5 (suc i) d over = a _ (d, suc i, sewn-entry M (suc i) d (omega arith) (omega arith), refl, over)
 
   silent-6 : (d f : ℕ) → 0 < sew M 1 d → sew M 1 d ≡ sew M 1 f → ¬ (d < f)
   silent-6 d f sewn same less =
       let sewn-f : 0 < sew M 1 f = rw same at sewn in
-      b f (1, sewn-entry M 1 f (omega arith) sewn-f, (refl, sewn-f, (d, sewn-dart M 1 d sewn .0, less, same)))
+      b _ (f, 1, sewn-entry M 1 f (omega arith) sewn-f, refl, (refl, sewn-f, (d, sewn-dart M 1 d sewn .0, less, same)))
 
   silent-8 : (i j d f : ℕ) → 1 ≤ i → i + 2 ≤ j → sew M i (sew M j d) ≡ f → 0 < f → ¬ ¬ (sew M i (sew M j f) ≡ d)
   silent-8 i j d f low apart is sewn other =
       let there = sewn-dart M i (sew M j d) (rw is sewn) in
-      e d (j, sewn-entry M j d (omega arith) (there .0), (i, f, low, apart, is, sewn, other))
+      e _ (d, j, sewn-entry M j d (omega arith) (there .0), refl, (i, f, low, apart, is, sewn, other))
 
   silent-open : OpenMap M
   silent-open =
@@ -346,7 +342,7 @@ module _ (M : Map) (a : Silent (entryLine M 5 Exceeds)) (b : Silent (entryLine M
             let not-more = silent-6 f d (rw same at sewn) (sym same) in
             omega arith;
         own-reverse = λ i d second sewn.
-            dec→stable (ℕ-discrete _ _) (λ other. c d (i, sewn-entry M i d (omega arith) sewn, (second, sewn, other)));
+            dec→stable (ℕ-discrete _ _) (λ other. c _ (d, i, sewn-entry M i d (omega arith) sewn, refl, (second, sewn, other)));
         compositions = λ i j d f low apart is sewn. dec→stable (ℕ-discrete _ _) (silent-8 i j d f low apart is sewn);
       }
 
@@ -364,8 +360,8 @@ entries-clear M = (to, back)
     parted-not : OpenMap M → (d i : ℕ) → ¬ Parted M d i
     parted-not o d i (h, e, low, apart, is, sewn, other) = other (o .compositions h i d e low apart is sewn)
 
-    entry-silent : (Breaks : Map → ℕ → ℕ → Type 0) → ((d i : ℕ) → ¬ Breaks M d i) → (d : ℕ) → ¬ ((i : ℕ) × Entry M d i × Breaks M d i)
-    entry-silent Breaks never d h = never d (h .0) (h .2)
+    entry-silent : (Breaks : Map → ℕ → ℕ → Type 0) → ((d i : ℕ) → ¬ Breaks M d i) → (p : ℕ) → ¬ ((d i : ℕ) × Entry M d i × (p ≡ placeOf (M .dim) d i) × Breaks M d i)
+    entry-silent Breaks never p (d, i, e, is, b) = never d i b
 
     back : OpenMap M → Clear (entryLines M)
     back o =

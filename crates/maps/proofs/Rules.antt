@@ -1,11 +1,12 @@
 -- The laws of `specs/Rules.antt`: places of entries, the least entry that breaks a rule, and numbers 1 to 8 in their order.
 --     dartAt-placeOf, sewingAt-placeOf     the dart and the sewing of an entry's place
+--     place-low, place-below               an entry's place, and those of the entries of lower darts
+--     place-says                           the places that break a rule are those of the entries that do
 --     lowOf-low, spoken                    no rule is broken by a sewing below the least that it speaks of
 --     unanswered-.., parted-..             how the tests of 7 and 8 come out, by what the sewings are
 --     clash-entry, clash-none              rule 6, judged dart by dart
 --     Kept, wrongEntry-none                no entry breaks a rule, exactly when it finds no wrong one
 --     wrongEntry-row, wrongEntry-rows      the wrong entry, searched for row by row
---     wrongDart, judgedBy-dart             else it names the least dart with an entry that breaks it, over all sewings
 --     over-none                            what rule 5 leaves
 --     Pass, rules-found, rules-none        the entries' verdict, by the wrong entry of each rule in turn
 --     shape-low .. shape-passed            numbers 1 to 3, by their tests
@@ -18,14 +19,14 @@ use mathlib.Core.Bool.{Bool, true, false, not}
 use mathlib.Core.List.{List, [], _∷_, _++_, map}
 use mathlib.Core.Logic.{_↔_, _⊎_, inl, inr, ⊎-elim}
 use native.Mathlib.Omega.{arith}
-use native.Mathlib.Nat.{mul-add-div-right, mul-add-mod-self-right, div-eq-of-lt, mod-eq-of-lt, suc-mul, le-trans, le-of-suc-le, mul-le-mul-right, div-lt-iff-lt-mul, div-mul-le-self, div-add-mod', mod-lt, mul-comm, eq-zero-or-pos, eq-or-lt-of-le}
+use native.Mathlib.Nat.{mul-add-div-right, mul-add-mod-self-right, div-eq-of-lt, mod-eq-of-lt, suc-mul, le-trans, mul-le-mul-right, div-lt-iff-lt-mul, div-mul-le-self, div-add-mod', mod-lt, mul-comm, eq-or-lt-of-le}
 use borrow.Author.Tests.{eq-eqb, ne-eqb, eqb-true, le-leb, lt-leb, lt-ltb, ltb-true, ltb-false}
 use lib.Dec.{eqb, leb, ltb}
 use lib.ListN.{length}
 use Rattle.maps.specs.Least.{least, some}
 use Rattle.maps.specs.Map.{Map, IsDart, sew}
 use Rattle.maps.specs.Given.{Given, placeOf, mapOf}
-use Rattle.maps.specs.Verdict.{accepted, refused, accepts, unless, atLeast, inOrder}
+use Rattle.maps.specs.Verdict.{accepted, refused, accepts, unless, inOrder}
 use Rattle.maps.specs.Accepted.{ToDarts}
 use Rattle.maps.specs.Lines.{Entry}
 use Rattle.maps.specs.Rules.{judgeDimension, judgeSize, judgeLength, judgeShape, judgeOutput, Rule, exceeds, givenBefore, unanswered, parted, composesWrong, overRule, clashRule, dartAt, sewingAt, wrongEntry, shownPlace, judgedBy, judgeEntries, judgeSewing}
@@ -34,7 +35,7 @@ use Rattle.maps.specs.declared.Law.{Law}
 use Rattle.maps.specs.declared.Law.the-variants.{Bounded, Reversed, Composed}
 use Rattle.maps.specs.declared.Output.{Output}
 use Rattle.maps.specs.declared.Output.the-variants.{Nothing, Word, Images}
-use Rattle.maps.proofs.Least.{Tested, passes, fails, tested, true-not-false, Misses, Found, Passed, least-none, none-least, least-found, least-is, passes-some, misses-some, some-misses}
+use Rattle.maps.proofs.Least.{Tested, passes, fails, tested, true-not-false, Misses, Found, Passed, least-none, none-least, least-is, some-misses}
 use Rattle.maps.proofs.Map.{back-dart, sewn-dart, sewn-low}
 use Rattle.maps.proofs.Verdict.{inOrder-passed, inOrder-first, inOrder-accepts, inOrder-one, unless-refused, unless-accepts}
 
@@ -152,7 +153,7 @@ module _ (M : Map) (i j d x e : ℕ) (first : x ≡ sew M j d) (second : e ≡ s
       simp (← first, ← second, sewn, ← third, ← fourth)
 
 -- each entry has its place in the table
-place-low : (n d i : ℕ) → 1 ≤ i → 1 ≤ placeOf n d i
+pub place-low : (n d i : ℕ) → 1 ≤ i → 1 ≤ placeOf n d i
 unfolding placeOf
 place-low n d i low = omega arith
 
@@ -163,7 +164,7 @@ place-high n m d i low high in-row =
     omega (arith, mul-comm m n, suc-mul (d - 1) n)
 
 -- the entries of lower darts stand before
-place-below : (n d i p : ℕ) → 1 ≤ d → i ≤ n → 1 ≤ p → d < dartAt n p → placeOf n d i < p
+pub place-below : (n d i p : ℕ) → 1 ≤ d → i ≤ n → 1 ≤ p → d < dartAt n p → placeOf n d i < p
 unfolding placeOf dartAt
 place-below n d i p low in-row one below =
     let row : suc (d - 1) * n ≤ (p - 1) / n * n = mul-le-mul-right n (omega arith) in
@@ -177,6 +178,13 @@ sewingAt-low n p = omega arith
 sewingAt-high : (n p : ℕ) → 1 ≤ n → sewingAt n p ≤ n
 unfolding sewingAt
 sewingAt-high n p dim = omega (arith, mod-lt (p - 1) dim)
+
+-- and is the place of that entry
+placeOf-at : (n p : ℕ) → 1 ≤ p → placeOf n (dartAt n p) (sewingAt n p) ≡ p
+unfolding placeOf dartAt sewingAt
+placeOf-at n p one =
+    let row : (p - 1) / n + 1 - 1 ≡ (p - 1) / n = omega arith in
+    rw row (omega (arith, div-add-mod' (p - 1) n))
 
 -- what stands before an entry is of a lower dart, or of a lower sewing of the same
 place-order : (n d i p : ℕ) → 1 ≤ d → i ≤ n → 1 ≤ p → p < placeOf n d i → (dartAt n p < d) ⊎ ((dartAt n p ≡ d) × (sewingAt n p < i))
@@ -200,12 +208,8 @@ place-order n d i p dart in-row one below = at (tested (ltb (dartAt n p) d))
 abbrev pub Kept : Map → Rule → Type 0
 Kept M r = (d i : ℕ) → Entry M d i → r .broken M d i ≡ false
 
--- the least dart with an entry that breaks the rule, or 0 where no dart has one
-unfoldable pub wrongDart : Map → Rule → ℕ
-wrongDart M r = least (M .darts) (λ d. some (M .dim) (λ i. r .broken M d i))
-
 -- the entry at a place breaks the rule; an entry of a dart does
-abbrev atPlace : Map → Rule → ℕ → Bool
+abbrev pub atPlace : Map → Rule → ℕ → Bool
 atPlace M r p = r .broken M (dartAt (M .dim) p) (sewingAt (M .dim) p)
 
 abbrev pub atDart : Map → Rule → ℕ → Bool
@@ -224,23 +228,17 @@ module _ (M : Map) (r : Rule) (dim : 1 ≤ M .dim) where
   kept-missed : Kept M r → Misses (atPlace M r) (M .dim * M .darts)
   kept-missed k p low high = k (dartAt (M .dim) p) (sewingAt (M .dim) p) (place-entry p low high)
 
-  kept-darts : Kept M r → Misses (atDart M r) (M .darts)
-  kept-darts k d low high = misses-some (λ i. r .broken M d i) (M .dim) (λ i li hi. k d i ((low, high), li, hi))
+  -- the places that break the rule are those of the entries that do
+  pub place-says : (p : ℕ) → ((d i : ℕ) × Entry M d i × (p ≡ placeOf (M .dim) d i) × (r .broken M d i ≡ true)) ↔ ((1 ≤ p) × (p ≤ M .dim * M .darts) × (atPlace M r p ≡ true))
+  place-says p = (to, back)
+    where
+      to : (d i : ℕ) × Entry M d i × (p ≡ placeOf (M .dim) d i) × (r .broken M d i ≡ true) → (1 ≤ p) × (p ≤ M .dim * M .darts) × (atPlace M r p ≡ true)
+      to (d, i, e, is, b) =
+          rw is
+          (place-low (M .dim) d i (e .1), place-high (M .dim) (M .darts) d i (e .0 .0) (e .0 .1) (e .2), atPlace-entry d i e ∙ b)
 
-  -- the least place is one of the least dart
-  found-dart : {p : ℕ} → Found (atPlace M r) (M .dim * M .darts) p → Found (atDart M r) (M .darts) (dartAt (M .dim) p)
-  found-dart {p} f =
-      let e : Entry M (dartAt (M .dim) p) (sewingAt (M .dim) p) = place-entry p (f .low) (f .high) in
-      record {
-        low = e .0 .0;
-        high = e .0 .1;
-        hit = passes-some (λ i. r .broken M (dartAt (M .dim) p) i) (M .dim) (sewingAt (M .dim) p) (e .1) (e .2) (f .hit);
-        before = λ d low less.
-            misses-some (λ i. r .broken M d i) (M .dim)
-            (λ i li hi.
-            sym (atPlace-entry d i ((low, le-trans (le-of-suc-le less) (e .0 .1)), li, hi))
-            ∙ f .before (placeOf (M .dim) d i) (place-low (M .dim) d i li) (place-below (M .dim) d i p low hi (f .low) less));
-      }
+      back : (1 ≤ p) × (p ≤ M .dim * M .darts) × (atPlace M r p ≡ true) → (d i : ℕ) × Entry M d i × (p ≡ placeOf (M .dim) d i) × (r .broken M d i ≡ true)
+      back (low, high, b) = (dartAt (M .dim) p, sewingAt (M .dim) p, place-entry p low high, sym (placeOf-at (M .dim) p low), b)
 
   -- the rule finds no wrong entry exactly when no entry breaks it
   pub wrongEntry-none : (wrongEntry M r ≡ 0) ↔ Kept M r
@@ -266,26 +264,6 @@ module _ (M : Map) (r : Rule) (dim : 1 ≤ M .dim) where
       at p (inl lower) = some-misses _ _ (so-far (dartAt (M .dim) p) (dartAt-low (M .dim) p) lower) (sewingAt (M .dim) p) (sewingAt-low (M .dim) p) (sewingAt-high (M .dim) p dim)
       at p (inr (same, less)) = rw (atPlace, same) (f .before (sewingAt (M .dim) p) (sewingAt-low (M .dim) p) less)
 
-  -- else the dart of the wrong entry is the least that has one, over all sewings
-  pub wrongEntry-dart : 0 < wrongEntry M r → dartAt (M .dim) (wrongEntry M r) ≡ wrongDart M r
-  unfolding wrongEntry wrongDart
-  wrongEntry-dart pos = sym (least-is (atDart M r) (M .darts) (found-dart (least-found (atPlace M r) _ pos)))
-
-  pub wrongDart-none : wrongEntry M r ≡ 0 → wrongDart M r ≡ 0
-  unfolding wrongDart
-  wrongDart-none none = none-least (atDart M r) (M .darts) (kept-darts (wrongEntry-none .0 none))
-
-  -- so the rule's verdict names the least dart with an entry that breaks it
-  pub judgedBy-dart : judgedBy M r ≡ atLeast (r .number) (wrongDart M r)
-  unfolding judgedBy shownPlace atLeast unless
-  judgedBy-dart = at (eq-zero-or-pos (wrongEntry M r))
-    where
-      at : (wrongEntry M r ≡ 0) ⊎ (0 < wrongEntry M r) → judgedBy M r ≡ atLeast (r .number) (wrongDart M r)
-      at (inl none) = simp (none, wrongDart-none none)
-      at (inr pos) =
-          let is = wrongEntry-dart pos in
-          simp (is, ne-eqb (wrongEntry M r) 0 (λ z. omega arith), ne-eqb (wrongDart M r) 0 (λ z. omega (arith, dartAt-low (M .dim) (wrongEntry M r))))
-
 -- what rule 5 leaves: every βi leads to a dart or to nothing
 pub over-none : (M : Map) → 1 ≤ M .dim → wrongEntry M overRule ≡ 0 → ToDarts M
 unfolding exceeds
@@ -304,14 +282,12 @@ pub data Pass (M : Map) : List Rule → Type 0 where
   past : {r : Rule} {rs : List Rule} → wrongEntry M r ≡ 0 → Pass M rs → Pass M (r ∷ rs)
 
 module _ {M : Map} where
-  -- the next one finds the wrong entry p, shown as q
-  pub rules-found : {rs : List Rule} → Pass M rs → (r : Rule) (ss : List Rule) (p q : ℕ) → 1 ≤ r .number → p ≡ wrongEntry M r → (p ≡ 0 → ⊥) → q ≡ dartAt (M .dim) p
-      → inOrder (map (judgedBy M) (rs ++ (r ∷ ss))) ≡ refused (r .number) q
+  -- the next one finds the wrong entry p
+  pub rules-found : {rs : List Rule} → Pass M rs → (r : Rule) (ss : List Rule) (p : ℕ) → 1 ≤ r .number → p ≡ wrongEntry M r → (p ≡ 0 → ⊥) → inOrder (map (judgedBy M) (rs ++ (r ∷ ss))) ≡ refused (r .number) p
   unfolding judgedBy shownPlace accepts accepted unless inOrder
-  rules-found done r ss p q low is wrong shown =
-      inOrder-first (judgedBy M r) (map (judgedBy M) ss) (r .number) q low
-      (simp (ne-eqb (wrongEntry M r) 0 (λ z. wrong (is ∙ z)), shown, is))
-  rules-found (past none rest) r ss p q low is wrong shown = simp none (rules-found rest r ss p q low is wrong shown)
+  rules-found done r ss p low is wrong =
+      inOrder-first (judgedBy M r) (map (judgedBy M) ss) (r .number) p low (simp (ne-eqb (wrongEntry M r) 0 (λ z. wrong (is ∙ z)), is))
+  rules-found (past none rest) r ss p low is wrong = simp none (rules-found rest r ss p low is wrong)
 
   -- none does
   pub rules-none : {rs : List Rule} → Pass M rs → inOrder (map (judgedBy M) rs) ≡ accepted

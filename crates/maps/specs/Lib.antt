@@ -8,5 +8,6 @@ pub mod Given
 pub mod Verdict
 pub mod Lines
 pub mod Rules
+pub mod Base
 pub mod Answer
 pub mod Inside

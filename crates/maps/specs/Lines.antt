@@ -14,7 +14,7 @@ use mathlib.Core.List.{List, [], _∷_, _++_, map}
 use mathlib.Core.Logic.{_⊎_}
 use lib.ListN.{length}
 use Rattle.maps.specs.Map.{Map, IsDart, sew}
-use Rattle.maps.specs.Given.{Given, mapOf}
+use Rattle.maps.specs.Given.{Given, placeOf, mapOf}
 use Rattle.maps.specs.Accepted.{Path}
 use Rattle.maps.specs.Verdict.{Verdict, accepted, refused}
 use Rattle.maps.specs.declared.Output.{Output}
@@ -80,9 +80,9 @@ Unanswered M d i = (2 ≤ i) × (0 < sew M i d) × (¬ (sew M i (sew M i d) ≡ 
 abbrev pub Parted : Map → ℕ → ℕ → Type 0
 Parted M d j = (h e : ℕ) × (1 ≤ h) × (h + 2 ≤ j) × (sew M h (sew M j d) ≡ e) × (0 < e) × (¬ (sew M h (sew M j e) ≡ d))
 
--- a line on entries; 01, column "Place": it holds of the dart of an entry that breaks its rule
+-- a line on entries; 02, wish 1: it holds of the place, in the dart table, of an entry that breaks its rule
 abbrev pub entryLine : Map → ℕ → (Map → ℕ → ℕ → Type 0) → Line
-entryLine M k Breaks = record { number = k; Holds = λ d. (i : ℕ) × Entry M d i × Breaks M d i }
+entryLine M k Breaks = record { number = k; Holds = λ p. (d i : ℕ) × Entry M d i × (p ≡ placeOf (M .dim) d i) × Breaks M d i }
 
 unfoldable pub entryLines : Map → List Line
 entryLines M = entryLine M 5 Exceeds ∷ entryLine M 6 GivenBefore ∷ entryLine M 7 Unanswered ∷ entryLine M 8 Parted ∷ []

@@ -4,7 +4,7 @@
 --     Rule            a number, and which entries of the table break it
 --     rules           5, 6, 7 and 8: `overRule`, `clashRule`, `reverseRule`, `composeRule`
 --     wrongEntry      the place in the table of the least entry that breaks a rule, or 0
---     shownPlace      what the display shows of a wrong entry: its dart
+--     shownPlace      what the display shows of a wrong entry: its place in the table
 --     judgedBy        a rule's verdict on a map
 --     judgeEntries    5 to 8
 --     judgeSewing     1 to 8
@@ -96,9 +96,9 @@ sewingAt n p = (p - 1) % n + 1
 unfoldable pub wrongEntry : Map → Rule → ℕ
 wrongEntry M r = least (M .dim * M .darts) (λ p. r .broken M (dartAt (M .dim) p) (sewingAt (M .dim) p))
 
--- 01, column "Place": of a wrong entry the display shows the dart
+-- 02, wish 1: "the place becomes that of the least wrong entry in the dart table, counted from 1"
 unfoldable pub shownPlace : Map → ℕ → ℕ
-shownPlace M p = dartAt (M .dim) p
+shownPlace M p = p
 
 unfoldable pub judgedBy : Map → Rule → Verdict
 judgedBy M r =

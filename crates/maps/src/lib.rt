@@ -5,11 +5,11 @@ ghost use lib.ListN.{replicate};
 ghost use Rattle.maps.specs.Map.{sew};
 ghost use Rattle.maps.specs.Given.{lent, mapOf, Shaped};
 ghost use Rattle.maps.specs.Verdict.{accepts};
-ghost use Rattle.maps.specs.Rules.{unanswered, parted, composesWrong, dartAt, wrongEntry, judgeOutput, judgeEntries, judgeSewing};
+ghost use Rattle.maps.specs.Rules.{unanswered, parted, composesWrong, wrongEntry, judgeOutput, judgeEntries, judgeSewing};
 ghost use Rattle.maps.specs.Answer.{JudgedAs};
 ghost use Rattle.maps.specs.Inside.{InTable, Blank, BackAs, ruleOf, lowOf, wrongSewing};
 
-// A verdict: passed, or refused with document 01's number and place.
+// A verdict: passed, or refused with the display's number and place.
 pub enum Judged {
     Passed,
     Refused { number: u32, place: usize },
@@ -164,14 +164,6 @@ fn sew_back(n: usize, m: usize, table: &[u16], back: &mut [u16; 1020]) -> usize
     0
 }
 
-// What the display shows of a wrong entry: its dart.
-fn shown(n: usize, p: usize) -> usize
-    requires { ⌜ (1 ≤ n) × (1 ≤ p) ⌝ }
-    ensures { λ r. ⌜ r ≡ dartAt n p ⌝ }
-{
-    (p - 1) / n + 1
-}
-
 // A refusal leaves zeros in the array of β0.
 fn refuse(number: u32, place: usize, back: &mut [u16; 1020]) -> Judged
     ensures { λ r. ⌜ (r ≡ Judged.Refused number place) × (now (back .exit) ≡ replicate 1020 0) ⌝ }
@@ -187,20 +179,20 @@ fn judge_entries(n: usize, m: usize, table: &[u16], back: &mut [u16; 1020]) -> J
 {
     let over = wrong_entry(Law::Bounded, n, m, table);
     if over != 0 {
-        return refuse(5, shown(n, over), back);
+        return refuse(5, over, back);
     }
     *back = [0; 1020];
     let given = sew_back(n, m, table, back);
     if given != 0 {
-        return refuse(6, shown(n, given), back);
+        return refuse(6, given, back);
     }
     let parted = wrong_entry(Law::Reversed, n, m, table);
     if parted != 0 {
-        return refuse(7, shown(n, parted), back);
+        return refuse(7, parted, back);
     }
     let twisted = wrong_entry(Law::Composed, n, m, table);
     if twisted != 0 {
-        return refuse(8, shown(n, twisted), back);
+        return refuse(8, twisted, back);
     }
     Judged::Passed
 }

@@ -34,6 +34,13 @@ alone = lent 1 1 (0 ∷ [])
 abbrev looped : Given
 looped = lent 1 1 (1 ∷ [])
 
+-- a ring of three darts, and one whose last dart is 2-sewn to itself
+abbrev ring : Given
+ring = lent 2 3 (2 ∷ 0 ∷ 3 ∷ 0 ∷ 1 ∷ 0 ∷ [])
+
+abbrev marked : Given
+marked = lent 2 3 (2 ∷ 0 ∷ 3 ∷ 0 ∷ 1 ∷ 3 ∷ [])
+
 -- what the plain check refuses, with its number and place
 record Faulty : Type 0 where
   given : Given
@@ -50,10 +57,15 @@ faults =
     ∷ faulty (lent 1 0 []) 2 0
     ∷ faulty (lent 1 1 (1 ∷ 1 ∷ [])) 3 0
     ∷ faulty (lent 1 2 (2 ∷ 3 ∷ [])) 5 2
+    ∷ faulty (lent 2 2 (0 ∷ 0 ∷ 0 ∷ 3 ∷ [])) 5 4
     ∷ faulty (lent 1 2 (1 ∷ 1 ∷ [])) 6 2
-    ∷ faulty (lent 2 2 (0 ∷ 2 ∷ 0 ∷ 0 ∷ [])) 7 1
-    ∷ faulty (lent 3 3 (0 ∷ 0 ∷ 2 ∷ 3 ∷ 0 ∷ 1 ∷ 0 ∷ 0 ∷ 0 ∷ [])) 8 1
+    ∷ faulty (lent 2 2 (1 ∷ 0 ∷ 1 ∷ 0 ∷ [])) 6 3
+    ∷ faulty (lent 2 2 (0 ∷ 2 ∷ 0 ∷ 0 ∷ [])) 7 2
+    ∷ faulty (lent 2 2 (0 ∷ 0 ∷ 0 ∷ 1 ∷ [])) 7 4
+    ∷ faulty (lent 3 3 (0 ∷ 0 ∷ 2 ∷ 3 ∷ 0 ∷ 1 ∷ 0 ∷ 0 ∷ 0 ∷ [])) 8 3
+    ∷ faulty (lent 4 3 (0 ∷ 0 ∷ 0 ∷ 2 ∷ 0 ∷ 3 ∷ 0 ∷ 1 ∷ 0 ∷ 2 ∷ 0 ∷ 0 ∷ [])) 8 4
     ∷ faulty (lent 1 2 (1 ∷ 2 ∷ [])) 9 2
+    ∷ faulty (lent 2 2 (1 ∷ 0 ∷ 2 ∷ 0 ∷ [])) 9 2
     ∷ []
 
 -- 1 to 9 of the first map, whatever the second, and 21 to 29 of the second: for the match, with room for every image, and for a list
@@ -75,7 +87,9 @@ lists =
     ∷ is (judgeAnswer chain chain (1 ∷ 0 ∷ [])) 11 2
     ∷ is (judgeAnswer chain chain (3 ∷ 1 ∷ [])) 11 1
     ∷ is (judgeAnswer chain chain (2 ∷ 2 ∷ [])) 11 2
+    ∷ is (judgeAnswer ring ring (1 ∷ 2 ∷ 2 ∷ [])) 11 3
     ∷ is (judgeAnswer chain chain (2 ∷ 1 ∷ [])) 12 1
+    ∷ is (judgeAnswer ring marked (1 ∷ 2 ∷ 3 ∷ [])) 12 3
     ∷ is (judgeAnswer alone looped (1 ∷ [])) 12 1
     ∷ is (judgeAnswer looped alone (1 ∷ [])) 12 1
     ∷ is (judgeAnswer chain chain (1 ∷ 2 ∷ [])) 0 0

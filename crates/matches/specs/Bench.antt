@@ -1,4 +1,4 @@
--- Cases A to M of document 01 as one table (01, "Bench cases").
+-- Cases A to M of document 01 as one table (01, "Bench cases"), with the places of document 02's wish 1.
 --     Expected   what document 01 says of one: a refusal, an answer of the signature call, of the match
 --     bench      the cases
 --     right      a case holds, by the definitions of the calls
@@ -77,12 +77,12 @@ bench =
     ∷ case (lent 2 2 (3 ∷ 0 ∷ 1 ∷ 0 ∷ [])) (isRefused 5 1)
     -- I
     ∷ case (lent 1 2 (1 ∷ 1 ∷ [])) (isRefused 6 2)
-    -- J
-    ∷ case (lent 2 2 (0 ∷ 2 ∷ 0 ∷ 0 ∷ [])) (isRefused 7 1)
+    -- J: 02, "J becomes 7 at 2 and L becomes 8 at 3"
+    ∷ case (lent 2 2 (0 ∷ 2 ∷ 0 ∷ 0 ∷ [])) (isRefused 7 2)
     -- K
     ∷ case (lent 1 2 (1 ∷ 2 ∷ [])) (isRefused 9 2)
     -- L
-    ∷ case (lent 3 3 (0 ∷ 0 ∷ 2 ∷ 3 ∷ 0 ∷ 1 ∷ 0 ∷ 0 ∷ 0 ∷ [])) (isRefused 8 1)
+    ∷ case (lent 3 3 (0 ∷ 0 ∷ 2 ∷ 3 ∷ 0 ∷ 1 ∷ 0 ∷ 0 ∷ 0 ∷ [])) (isRefused 8 3)
     -- M
     ∷ case (lent 3 3 (0 ∷ 0 ∷ 2 ∷ 0 ∷ 0 ∷ 1 ∷ 2 ∷ 0 ∷ 0 ∷ [])) isAccepted
     ∷ []

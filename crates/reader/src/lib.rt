@@ -144,7 +144,7 @@ pub extern "C" fn duftheim_search(
         },
         Search::Refused { number, place } => DuftheimFound {
             number, // 1 to 3, 5 to 9 or 13 to 15
-            place, // a dart's or, of 14, a record's
+            place, // an entry's, a dart's or, of 14, a record's
             die: 0,
             record: 0,
         },
@@ -171,7 +171,7 @@ pub extern "C" fn duftheim_file(
         },
         Filing::Refused { number, place } => DuftheimFiled {
             number, // 1 to 3, 5 to 9, 13, 14 or 16 to 18
-            place, // a dart's or, of 14, 16 and 17, a record's
+            place, // an entry's, a dart's or, of 14, 16 and 17, a record's
             count: 0,
         },
     }

@@ -16,7 +16,7 @@ use crate::orbits::tree_size;
 use maps::Judged;
 use maps::Output;
 
-// The answer of the signature call: the word is in the output, with its least start and its symmetries; or document 01's number
+// The answer of the signature call: the word is in the output, with its least start and its symmetries; or the display's number
 // and place.
 pub enum Signed {
     Word { start: usize, symmetries: usize },

@@ -15,7 +15,7 @@ use crate::orbits::join_all;
 use maps::Judged;
 use maps::Output;
 
-// A table that is accepted is its own signature or another word; or document 01's number and place.
+// A table that is accepted is its own signature or another word; or the display's number and place.
 pub enum Own {
     Signature,
     Other,

@@ -39,9 +39,9 @@ none-7 c = sym (c .before .wrong-entry2 .ensures) ∙ c .if3 .left
 returns : tie.Need-returns
 unfolding judgeEntries rules ruleOf mapOf
 returns c =
-    let over = c .before .before .before in
+    let over = c .before .before in
     as-refused 5 _ (omega arith)
-    (rules-found done overRule (clashRule ∷ reverseRule ∷ composeRule ∷ []) _ _ (omega arith) (over .before .wrong-entry .ensures) (over .if1 .taken) (c .before .before .shown .ensures))
+    (rules-found done overRule (clashRule ∷ reverseRule ∷ composeRule ∷ []) _ (omega arith) (over .before .wrong-entry .ensures) (over .if1 .taken))
     (c .refuse .ensures .0)
     (c .refuse .ensures .1)
 
@@ -55,35 +55,31 @@ sew-back-requires c κs =
 returns-2 : tie.Need-returns-2
 unfolding judgeEntries rules mapOf
 returns-2 c =
-    let given = c .before .before .before in
+    let given = c .before .before in
     let sewn = given .before in
     as-refused 6 _ (omega arith)
-    (rules-found (past (none-5 (sewn .before .before .before)) done) clashRule (reverseRule ∷ composeRule ∷ []) _ _ (omega arith) (sewn .sew-back .ensures .wrong) (given .if2 .taken)
-    (c .before .before .shown2 .ensures))
+    (rules-found (past (none-5 (sewn .before .before .before)) done) clashRule (reverseRule ∷ composeRule ∷ []) _ (omega arith) (sewn .sew-back .ensures .wrong) (given .if2 .taken))
     (c .refuse2 .ensures .0)
     (c .refuse2 .ensures .1)
 
 returns-3 : tie.Need-returns-3
 unfolding judgeEntries rules ruleOf mapOf
 returns-3 c =
-    let parted = c .before .before .before in
+    let parted = c .before .before in
     let passed = parted .before .before in
     as-refused 7 _ (omega arith)
-    (rules-found (past (none-5 (past-5 passed)) (past (none-6 passed) done)) reverseRule (composeRule ∷ []) _ _ (omega arith) (parted .before .wrong-entry2 .ensures) (parted .if3 .taken)
-    (c .before .before .shown3 .ensures))
+    (rules-found (past (none-5 (past-5 passed)) (past (none-6 passed) done)) reverseRule (composeRule ∷ []) _ (omega arith) (parted .before .wrong-entry2 .ensures) (parted .if3 .taken))
     (c .refuse3 .ensures .0)
     (c .refuse3 .ensures .1)
 
 returns-4 : tie.Need-returns-4
 unfolding judgeEntries rules ruleOf mapOf
 returns-4 c =
-    let twisted = c .before .before .before in
+    let twisted = c .before .before in
     let passed = twisted .before .before in
     let before = past-6 passed in
     as-refused 8 _ (omega arith)
-    (rules-found (past (none-5 (past-5 before)) (past (none-6 before) (past (none-7 passed) done))) composeRule [] _ _ (omega arith) (twisted .before .wrong-entry3 .ensures)
-    (twisted .if4 .taken)
-    (c .before .before .shown4 .ensures))
+    (rules-found (past (none-5 (past-5 before)) (past (none-6 before) (past (none-7 passed) done))) composeRule [] _ (omega arith) (twisted .before .wrong-entry3 .ensures) (twisted .if4 .taken))
     (c .refuse4 .ensures .0)
     (c .refuse4 .ensures .1)
 
@@ -102,17 +98,13 @@ judge-entries-spec =
     (tie.spec
     (λ c κs. search needs)
     (λ c κs. search needs)
-    (λ c κs. search needs)
     returns
     sew-back-requires
-    (λ c κs. search needs)
     (λ c κs. search needs)
     returns-2
     (λ c κs. search needs)
     (λ c κs. search needs)
-    (λ c κs. search needs)
     returns-3
-    (λ c κs. search needs)
     (λ c κs. search needs)
     (λ c κs. search needs)
     returns-4

@@ -5,7 +5,7 @@ use crate::{print, read};
 use drawer::{Filing, Search};
 
 // A drawer's record count, and how many bytes the case lends with it. The bytes are in the slice that was lent.
-#[derive(Drop)]
+#[derive(Clone, Copy)]
 pub struct DrawerPart {
     pub count: usize,
     pub lent: usize,
@@ -44,7 +44,7 @@ fn print_filing(filing: Filing, bytes: &[u8]) {
 }
 
 // What is asked of a map and a drawer: where the map stands, the record found, or that it be filed.
-#[derive(Drop)]
+#[derive(Clone, Copy)]
 pub enum Asked {
     Find,
     Record,

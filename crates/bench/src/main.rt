@@ -1,6 +1,8 @@
 // Reads cases from standard input, in the form of tests/CASES.md, and prints the line of each.
 // It answers every call there. A line that is malformed or longer than 131,072 bytes, a list of more than 2,048 numbers, and a
 // drawer of more bytes than 1,025 records have print `?`.
+#![tactic(auto)]
+
 mod drawers;
 mod pairs;
 mod print;

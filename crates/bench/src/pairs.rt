@@ -2,7 +2,7 @@
 use crate::{print, read};
 
 // What is asked of two maps: to match them, with the list as the output, or to judge the list.
-#[derive(Drop)]
+#[derive(Clone, Copy)]
 pub enum Asked {
     Match,
     Judge,

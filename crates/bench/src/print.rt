@@ -43,7 +43,7 @@ fn run(n: u64, times: usize) {
 }
 
 // The run that is under way in a list. It may go on, and is not printed yet.
-#[derive(Drop)]
+#[derive(Clone, Copy)]
 pub struct Begun {
     pub value: u64,
     pub times: usize,

@@ -7,14 +7,14 @@ ghost use Rattle.std.specs.Prelude.{◌≤◌, length as size};
 const LOST: usize = usize::MAX;
 
 // A number, or a list's length. The list's numbers are in the slice that was lent.
-#[derive(Drop)]
+#[derive(Clone, Copy)]
 pub struct NumberPart {
     pub value: usize,
     pub next: usize,
 }
 
 // A number of a list, and how often it stands there from here on.
-#[derive(Drop)]
+#[derive(Clone, Copy)]
 pub struct RunPart {
     pub value: usize,
     pub times: usize,
@@ -22,7 +22,7 @@ pub struct RunPart {
 }
 
 // A map's two numbers and its table's length. The table is in the slice that was lent.
-#[derive(Drop)]
+#[derive(Clone, Copy)]
 pub struct MapPart {
     pub n: usize,
     pub m: usize,

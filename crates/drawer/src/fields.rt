@@ -8,7 +8,7 @@ ghost use Rattle.drawer.specs.Inside.{HoldsWord, HoldNumbers, Compares, header_o
 use words::Own;
 
 // What reading a record finds: a filed layout, whose word stays where it stands, or the first of the record's faults.
-#[derive(Drop)]
+#[derive(Clone, Copy)]
 pub enum Reading {
     Layout { die: u32, n: usize, m: usize },
     WrongDimension,

@@ -13,7 +13,7 @@ use crate::write::make_record;
 use maps::Judged;
 
 // The answer of filing: the new count; or the display's number and place.
-#[derive(Drop)]
+#[derive(Clone, Copy)]
 pub enum Filing {
     Filed { count: usize },
     Refused { number: u32, place: usize },

@@ -1,4 +1,6 @@
 // The drawer: records read and written, the check, search, the record's own bytes, and filing.
+#![tactic(auto)]
+
 mod check;
 mod fields;
 mod file;

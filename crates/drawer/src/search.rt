@@ -10,7 +10,7 @@ use crate::write::make_record;
 use maps::Judged;
 
 // The answer of search: the die number and the record number; or the display's number and place.
-#[derive(Drop)]
+#[derive(Clone, Copy)]
 pub enum Search {
     Found { die: u32, at: usize },
     Refused { number: u32, place: usize },

@@ -7,7 +7,7 @@ use crate::fields::{Reading, die_of, read_header, read_word};
 use maps::Judged;
 
 // The die number as it stands, and the reading; or nothing, where the bytes are not 2,048 or the list has no room for 1,020 numbers.
-#[derive(Drop)]
+#[derive(Clone, Copy)]
 pub enum Entry {
     Unread,
     Read { die: u32, reading: Reading },

@@ -1,4 +1,6 @@
 // The labelling of a map, the darts that it reaches, and the plain check of a dart table.
+#![tactic(auto)]
+
 ghost use Rattle.std.specs.Prelude.{◌≡◌, ◌≤◌, take, replicate};
 ghost use Rattle.maps.specs.Given.{lent, map_of};
 ghost use Rattle.maps.specs.Answer.{judged_of};
@@ -9,7 +11,7 @@ ghost use Rattle.labels.specs.Inside.{Holds, Meets, Sewn, Serves, Served, Starts
 use maps::{Judged, Output};
 
 // The labelling under way: how many labels are given.
-#[derive(Drop)]
+#[derive(Clone, Copy)]
 struct Labelling {
     given: usize,
 }

@@ -1,18 +1,20 @@
 // The layout lister: reads records from standard input and prints the line of each when it is complete. One record is held.
+#![tactic(auto)]
+
 ghost use Rattle.std.specs.Prelude.{◌≡◌, ◌+◌, ◌≤◌, length};
 ghost use Rattle.layouts.specs.Reading.{all_read, Partly, Added, Stepped, Status};
 
 use libc::{STDERR_FILENO, STDIN_FILENO, STDOUT_FILENO};
 
 // How far the input is read: so many whole records, and so many bytes of the next.
-#[derive(Drop)]
+#[derive(Clone, Copy)]
 pub struct Progress {
     pub records: usize,
     pub bytes: usize,
 }
 
 // What one reading gives: more bytes, the end of the input, or a fault of the input or the output.
-#[derive(Drop)]
+#[derive(Clone, Copy)]
 pub enum Step {
     To(Progress),
     End,

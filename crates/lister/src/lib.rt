@@ -1,4 +1,6 @@
 // The lines that the layout lister prints. A line is made from its end, so that a number's digits are put as they come.
+#![tactic(auto)]
+
 ghost use Rattle.std.specs.Prelude.{◌≡◌, true, [], ◌∷◌, ◌++◌, ◌+◌, ◌≤◌, length};
 ghost use Rattle.maps.specs.Given.{lent};
 ghost use Rattle.maps.specs.Verdict.{accepts};

@@ -1,4 +1,6 @@
 // What a map is: a dart table judged by rules 1 to 8, and β0 of each dart.
+#![tactic(auto)]
+
 ghost use Rattle.std.specs.Prelude.{◌≡◌, ◌≤◌, replicate};
 ghost use Rattle.maps.specs.Map.{sew};
 ghost use Rattle.maps.specs.Given.{lent, map_of, Shaped};
@@ -8,14 +10,14 @@ ghost use Rattle.maps.specs.Answer.{JudgedAs};
 ghost use Rattle.maps.specs.Inside.{InTable, Blank, BackAs, rule_of, low_of, wrong_sewing};
 
 // A verdict: passed, or refused with the display's number and place.
-#[derive(Drop)]
+#[derive(Clone, Copy)]
 pub enum Judged {
     Passed,
     Refused { number: u32, place: usize },
 }
 
 // The output that a call is lent beside its table, with its length: none, one for a word, or one for a matching's images.
-#[derive(Drop)]
+#[derive(Clone, Copy)]
 pub enum Output {
     Nothing,
     Word(usize),
@@ -23,7 +25,7 @@ pub enum Output {
 }
 
 // The rules that are judged entry by entry: 5, 7 and 8.
-#[derive(Drop)]
+#[derive(Clone, Copy)]
 enum Law {
     Bounded,
     Reversed,

@@ -1,4 +1,6 @@
 // The judging of a handed-in list.
+#![tactic(auto)]
+
 ghost use Rattle.std.specs.Prelude.{◌≡◌, ◌≤◌, length};
 ghost use Rattle.maps.specs.Least.{nth};
 ghost use Rattle.maps.specs.Given.{lent};

@@ -1,4 +1,6 @@
 // The C boundary: the calls that the camera's program makes, on numbers and slices. include/duftheim.h declares them.
+#![tactic(auto)]
+
 ghost use Rattle.maps.specs.Given.{lent};
 ghost use Rattle.maps.specs.Answer.{verdict_of};
 ghost use Rattle.drawer.specs.Drawer.{drawer};
@@ -10,7 +12,7 @@ use words::Signed;
 
 // A verdict, as C sees it: number 0 and place 0 where the call accepts.
 #[repr(C)]
-#[derive(Drop)]
+#[derive(Clone, Copy)]
 pub struct DuftheimVerdict {
     pub number: u32,
     pub place: usize,
@@ -18,7 +20,7 @@ pub struct DuftheimVerdict {
 
 // The answer of the signature call, as C sees it: number 0 where the map is accepted.
 #[repr(C)]
-#[derive(Drop)]
+#[derive(Clone, Copy)]
 pub struct DuftheimSigned {
     pub number: u32,
     pub place: usize,
@@ -28,7 +30,7 @@ pub struct DuftheimSigned {
 
 // The answer of search, as C sees it: number 0 where the layout is filed.
 #[repr(C)]
-#[derive(Drop)]
+#[derive(Clone, Copy)]
 pub struct DuftheimFound {
     pub number: u32,
     pub place: usize,
@@ -38,7 +40,7 @@ pub struct DuftheimFound {
 
 // The answer of filing, as C sees it: number 0 where the layout is filed now, with the new count of records.
 #[repr(C)]
-#[derive(Drop)]
+#[derive(Clone, Copy)]
 pub struct DuftheimFiled {
     pub number: u32,
     pub place: usize,

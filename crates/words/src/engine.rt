@@ -5,7 +5,7 @@ ghost use Rattle.labels.specs.Inside.{Meets};
 ghost use Rattle.words.specs.Inside.{is_less, is_same, Met, Weighs, Weighed, leaves_at, Ready, Forgets, Raced, Tried};
 
 // How a start's word comes out against the word held.
-#[derive(Drop)]
+#[derive(Clone, Copy)]
 pub(crate) enum Side {
     Less,
     Same,
@@ -13,14 +13,14 @@ pub(crate) enum Side {
 }
 
 // The labelling under way: how many labels are given, and the label of what was met last.
-#[derive(Drop)]
+#[derive(Clone, Copy)]
 struct Labelling {
     given: usize,
     label: usize,
 }
 
 // A start has run: how its word comes out, and how many labels it has given.
-#[derive(Drop)]
+#[derive(Clone, Copy)]
 struct Course {
     side: Side,
     given: usize,

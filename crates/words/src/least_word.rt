@@ -11,7 +11,7 @@ use maps::{Judged, Output};
 
 // The answer of the signature call: the word is in the output, with its least start and its symmetries; or the display's number
 // and place.
-#[derive(Drop)]
+#[derive(Clone, Copy)]
 pub enum Signed {
     Word { start: usize, symmetries: usize },
     Refused { number: u32, place: usize },

@@ -1,4 +1,6 @@
 // Words, the least word, and the calls that run starts: each in its own module, above the engine that runs one.
+#![tactic(auto)]
+
 mod engine;
 mod first_row;
 mod least_word;

@@ -11,7 +11,7 @@ use crate::orbits::join_all;
 use maps::{Judged, Output};
 
 // A table that is accepted is its own signature or another word; or the display's number and place.
-#[derive(Drop)]
+#[derive(Clone, Copy)]
 pub enum Own {
     Signature,
     Other,

@@ -23,50 +23,50 @@ misshapen : (o : Output) (k : ℕ) → 1 ≤ k → {g : Given} {r : Judged} {hel
 misshapen o k low {g} is answer = as_refused k 0 low (sewing_shape o g k low is) answer.0 answer.1
 
 -- past 1 to 3 the table is in shape
-shape-here : (c : tie.Else6) →
+shape-here : (c : tie.Else-table-n) →
     let a = c.before.before.before.before.before.before.before.args in
     judge_shape (lent a.n a.m a.table.now) ≡ accepted
 shape-here c = shape_passed _ (omega arith) (omega arith) (omega arith) (omega arith) (omega arith)
 
-returns : tie.Need-returns
+returns : tie.Need-returns-then-n-lt1
 returns c = misshapen _ 1 (omega arith) (shape_low _ (omega arith)) c.refuse.ensures
 
-returns-2 : tie.Need-returns-2
-returns-2 c = misshapen _ 1 (omega arith) (shape_high _ (omega arith)) c.refuse2.ensures
+returns-2 : tie.Need-returns-then-n-gt4
+returns-2 c = misshapen _ 1 (omega arith) (shape_high _ (omega arith)) c.refuse-then-n-gt4.ensures
 
-returns-3 : tie.Need-returns-3
-returns-3 c = misshapen _ 2 (omega arith) (shape_none _ (omega arith) (omega arith) (omega arith)) c.refuse3.ensures
+returns-3 : tie.Need-returns-then-m-lt1
+returns-3 c = misshapen _ 2 (omega arith) (shape_none _ (omega arith) (omega arith) (omega arith)) c.refuse-then-m-lt1.ensures
 
-returns-4 : tie.Need-returns-4
-returns-4 c = misshapen _ 2 (omega arith) (shape_many _ (omega arith) (omega arith) (omega arith) (omega arith)) c.refuse4.ensures
+returns-4 : tie.Need-returns-then-m-gt1020
+returns-4 c = misshapen _ 2 (omega arith) (shape_many _ (omega arith) (omega arith) (omega arith) (omega arith)) c.refuse-then-m-gt1020.ensures
 
-mul-if5 : tie.Need-overflow-mul-if5
-mul-if5 c = omega (arith, mul-le-mul c.before.before.if2.false c.if4.false)
+mul-if5 : tie.Need-overflow_mul-n
+mul-if5 c = omega (arith, mul-le-mul c.before.before.if-n-gt4.false c.if-m-gt1020.false)
 
-returns-5 : tie.Need-returns-5
-returns-5 c = misshapen _ 2 (omega arith) (shape_most _ (omega arith) (omega arith) (omega arith) (omega arith)) c.refuse5.ensures
+returns-5 : tie.Need-returns-then-n-m-gt1020
+returns-5 c = misshapen _ 2 (omega arith) (shape_most _ (omega arith) (omega arith) (omega arith) (omega arith)) c.refuse-then-n-m-gt1020.ensures
 
-returns-6 : tie.Need-returns-6
+returns-6 : tie.Need-returns-then-table-n
 returns-6 c =
-    misshapen _ 3 (omega arith) (shape_long _ (omega arith) (omega arith) (omega arith) (omega arith) c.before.before.if6.true) c.refuse6.ensures
+    misshapen _ 3 (omega arith) (shape_long _ (omega arith) (omega arith) (omega arith) (omega arith) c.before.before.if-table-n.true) c.refuse-then-table-n.ensures
 
-judge-entries-requires : tie.Need-judge-entries-requires
+judge-entries-requires : tie.Need-judge_entries-requires
 judge-entries-requires c κs = record { bounds = omega arith; long = omega arith }
 
-returns-7 : tie.Need-returns-7
+returns-7 : tie.Need-returns-then-has_room
 returns-7 c =
     let has_room = c.before.before.before in
-    let room = sym has_room.has_room.ensures ∙ c.before.before.if7.true in
-    as_same (sewing_entries _ _ (shape-here has_room.before) room) c.judge-entries.ensures
+    let room = sym has_room.has_room.ensures ∙ c.before.before.if-has_room.true in
+    as_same (sewing_entries _ _ (shape-here has_room.before) room) c.judge_entries.ensures
 
-returns-8 : tie.Need-returns-8
+returns-8 : tie.Need-returns
 returns-8 c =
     let has_room = c.before.before.before in
-    let room = sym has_room.has_room.ensures ∙ c.before.before.if7.false in
-    as_refused 4 0 (omega arith) (sewing_short _ _ (shape-here has_room.before) room) c.refuse7.ensures.0 c.refuse7.ensures.1
+    let room = sym has_room.has_room.ensures ∙ c.before.before.if-has_room.false in
+    as_refused 4 0 (omega arith) (sewing_short _ _ (shape-here has_room.before) room) c.refuse-2.ensures.0 c.refuse-2.ensures.1
 
-pub judge-spec : {M : Type 1} → statement M
-judge-spec =
+pub judge_spec : {M : Type 1} → statement M
+judge_spec =
     tie.close
     (tie.spec
     (λ c κs. search rules)

@@ -4,19 +4,19 @@ use Rattle.maps.proofs.Rules.{unanswered_first, unanswered_unsewn, unanswered_se
 use Rattle.maps.proofs.not_answered.Statement.{statement}
 use Rattle.maps.proofs.not_answered.Tie as tie
 
-returns : tie.Need-returns
-returns c = unanswered_first _ _ _ c.if1.true
+returns : tie.Need-returns-then-i-lt2
+returns c = unanswered_first _ _ _ c.if-i-lt2.true
 
-returns-2 : tie.Need-returns-2
-returns-2 c = unanswered_unsewn _ _ _ c.before.before.if1.false _ c.before.sewn.ensures c.if2.true
+returns-2 : tie.Need-returns-then-e-eq0
+returns-2 c = unanswered_unsewn _ _ _ c.before.before.if-i-lt2.false _ c.before.sewn-e.ensures c.if-e-eq0.true
 
-returns-3 : tie.Need-returns-3
+returns-3 : tie.Need-returns
 returns-3 c =
     let at_test = c.before in
-    unanswered_sewn _ _ _ at_test.before.before.if1.false _ _ at_test.before.sewn.ensures at_test.if2.false c.sewn2.ensures
+    unanswered_sewn _ _ _ at_test.before.before.if-i-lt2.false _ _ at_test.before.sewn-e.ensures at_test.if-e-eq0.false c.sewn.ensures
 
-pub not-answered-spec : {M : Type 1} → statement M
-not-answered-spec =
+pub not_answered_spec : {M : Type 1} → statement M
+not_answered_spec =
     tie.close
     (tie.spec
     returns

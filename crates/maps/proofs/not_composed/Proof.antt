@@ -15,42 +15,42 @@ record Composing (M : Map) (d j i : ℕ) : Type 0 where
   high : i ≤ 4
   so_far : Passed (λ k. parted M k j d) i
 
-abbrev invariant-loop : tie.invariant-loop
-invariant-loop n m table d j i₀ i = Composing (map_of (lent n m table)) d j i
+abbrev invariant-loop-i : tie.invariant-loop-i
+invariant-loop-i n m table d j i₀ i = Composing (map_of (lent n m table)) d j i
 
-abbrev decreases-loop : tie.decreases-loop
-decreases-loop n m table d j i₀ i = j - i
+abbrev decreases-loop-i : tie.decreases-loop-i
+decreases-loop-i n m table d j i₀ i = j - i
 
-loop-holds : tie.Need-loop-init invariant-loop decreases-loop
+loop-holds : tie.Need-loop-i-init invariant-loop-i decreases-loop-i
 loop-holds c = record { low = omega arith; high = omega arith; so_far = passed_start _ }
 
-parts-requires : tie.Need-parts-requires invariant-loop decreases-loop
+parts-requires : tie.Need-parts-requires invariant-loop-i decreases-loop-i
 parts-requires c κs =
     let start = c.before.before.before in
     (record { shaped = start.requires.shaped; low = omega arith; high = omega arith }, start.requires)
 
-returns : tie.Need-returns invariant-loop decreases-loop
+returns : tie.Need-returns-then-parts invariant-loop-i decreases-loop-i
 unfolding composes_wrong
 returns c =
-    let fails = sym c.before.parts.ensures ∙ c.if1.true in
-    sym (passes_some _ _ c.before.before.before.loop.i (omega arith) (omega arith) fails)
+    let fails = sym c.before.parts.ensures ∙ c.if-parts.true in
+    sym (passes_some _ _ c.before.before.before.loop-i.i (omega arith) (omega arith) fails)
 
-loop-again : tie.Need-loop-preserved invariant-loop decreases-loop
+loop-again : tie.Need-loop-i-preserved invariant-loop-i decreases-loop-i
 loop-again c =
     let at-loop = c.before.before.before in
-    let holds = sym c.before.parts.ensures ∙ c.if1.false in
-    record { low = omega arith; high = omega arith; so_far = passed_turn _ at-loop.loop.invariant.so_far holds }
+    let holds = sym c.before.parts.ensures ∙ c.if-parts.false in
+    record { low = omega arith; high = omega arith; so_far = passed_turn _ at-loop.loop-i.invariant.so_far holds }
 
-returns-2 : tie.Need-returns-2 invariant-loop decreases-loop
+returns-2 : tie.Need-returns invariant-loop-i decreases-loop-i
 unfolding composes_wrong
-returns-2 c = sym (misses_some _ _ (passed_misses _ c.before.loop.invariant.so_far (omega arith)))
+returns-2 c = sym (misses_some _ _ (passed_misses _ c.before.loop-i.invariant.so_far (omega arith)))
 
-pub not-composed-spec : {M : Type 1} → statement M
-not-composed-spec =
+pub not_composed_spec : {M : Type 1} → statement M
+not_composed_spec =
     tie.close
     (tie.spec
-    invariant-loop
-    decreases-loop
+    invariant-loop-i
+    decreases-loop-i
     loop-holds
     (λ c. omega arith)
     parts-requires

@@ -4,17 +4,17 @@ use borrow.Author.Rules.{rules}
 use Rattle.maps.proofs.parts.Statement.{statement}
 use Rattle.maps.proofs.parts.Tie as tie
 
-returns : tie.Need-returns
+returns : tie.Need-returns-then-e-eq0
 returns c =
     let before-test = c.before in
-    parted_unsewn _ _ _ _ _ _ before-test.before.sewn.ensures before-test.sewn2.ensures c.if1.true
+    parted_unsewn _ _ _ _ _ _ before-test.before.sewn.ensures before-test.sewn-e.ensures c.if-e-eq0.true
 
-returns-2 : tie.Need-returns-2
+returns-2 : tie.Need-returns
 returns-2 c =
     let at_test = c.before.before in
-    parted_sewn _ _ _ _ _ _ at_test.before.before.sewn.ensures at_test.before.sewn2.ensures at_test.if1.false _ _ c.before.sewn3.ensures c.sewn4.ensures
+    parted_sewn _ _ _ _ _ _ at_test.before.before.sewn.ensures at_test.before.sewn-e.ensures at_test.if-e-eq0.false _ _ c.before.sewn-2.ensures c.sewn-3.ensures
 
-pub parts-spec : {M : Type 1} → statement M
-parts-spec =
+pub parts_spec : {M : Type 1} → statement M
+parts_spec =
     tie.close
     (tie.spec (λ c κs. search rules) (λ c κs. search rules) returns (λ c κs. search rules) (λ c κs. search rules) returns-2)

@@ -18,6 +18,7 @@ use Rattle.maps.proofs.Given.{in_table}
 use Rattle.maps.proofs.Rules.{clash_entry, clash_none}
 use Rattle.maps.proofs.Answer.{Backs, backs_start, backs_unsewn, backs_given, backs_whole, clash_sewn, clash_unsewn}
 use Rattle.maps.proofs.sew_back.Statement.{statement}
+use Rattle.maps.proofs.sew_back.Lts.{then-e-ne0+else-back-e-ne0, else-e-ne0}
 use Rattle.maps.proofs.sew_back.Tie as tie
 
 -- the darts below d are passed
@@ -63,37 +64,37 @@ module _ {M : Map} {d : ℕ} {back : List ℕ} (s : Sewing M M.darts d back) (di
           so_far = passed_turn _ s.so_far (ap (λ (c : ℕ). given_before M c 1) (sym one_less) ∙ clash_unsewn s.backs dart dim unsewn);
         }
 
-abbrev invariant-loop : tie.invariant-loop
-invariant-loop n m table back₀ d₀ back d = Sewing (map_of (lent n m table)) m d back
+abbrev invariant-loop-d : tie.invariant-loop-d
+invariant-loop-d n m table back₀ d₀ back d = Sewing (map_of (lent n m table)) m d back
 
-abbrev decreases-loop : tie.decreases-loop
-decreases-loop n m table back₀ d₀ back d = m + 1 - d
+abbrev decreases-loop-d : tie.decreases-loop-d
+decreases-loop-d n m table back₀ d₀ back d = m + 1 - d
 
 -- the places of this proof
-abbrev at-loop : tie.After-sewn invariant-loop decreases-loop → tie.At-loop invariant-loop decreases-loop
+abbrev at-loop : tie.After-sewn-e invariant-loop-d decreases-loop-d → tie.At-loop-d invariant-loop-d decreases-loop-d
 at-loop c = c.before.before
 
-abbrev start : tie.At-loop invariant-loop decreases-loop → tie.Start invariant-loop decreases-loop
+abbrev start : tie.At-loop-d invariant-loop-d decreases-loop-d → tie.Start invariant-loop-d decreases-loop-d
 start c = c.before.before
 
 -- there are few darts
-few : (c : tie.At-loop invariant-loop decreases-loop) → (start c).args.m ≤ 1020
+few : (c : tie.At-loop-d invariant-loop-d decreases-loop-d) → (start c).args.m ≤ 1020
 few c = darts_most (start c).requires.shaped.bounds
 
 -- what the next dart is sewn to has a place in the array
-sewn-inside : (c : tie.After-sewn invariant-loop decreases-loop) → c.sewn.result ≤ 1020
+sewn-inside : (c : tie.After-sewn-e invariant-loop-d decreases-loop-d) → c.sewn-e.result ≤ 1020
 unfolding map_of
 sewn-inside c =
-    let bound = (start (at-loop c)).pre.within 1 (at-loop c).loop.d in
-    omega (arith, few (at-loop c), c.sewn.ensures, bound)
+    let bound = (start (at-loop c)).requires.within 1 (at-loop c).loop-d.d in
+    omega (arith, few (at-loop c), c.sewn-e.ensures, bound)
 
 -- the first entry of the dart is inside the table
-row_inside : (c : tie.After-sewn invariant-loop decreases-loop) → ((at-loop c).loop.d - 1) * (start (at-loop c)).args.n < 1020
+row_inside : (c : tie.After-sewn-e invariant-loop-d decreases-loop-d) → ((at-loop c).loop-d.d - 1) * (start (at-loop c)).args.n < 1020
 row_inside c =
-    let shaped = (start (at-loop c)).pre.shaped in
-    omega (arith, in_table shaped (at-loop c).loop.d 1 (omega arith) (omega arith) (omega arith) shaped.bounds.dim_least, shaped.long)
+    let shaped = (start (at-loop c)).requires.shaped in
+    omega (arith, in_table shaped (at-loop c).loop-d.d 1 (omega arith) (omega arith) (omega arith) shaped.bounds.dim_least, shaped.long)
 
-loop-holds : tie.Need-loop-init invariant-loop decreases-loop
+loop-holds : tie.Need-loop-d-init invariant-loop-d decreases-loop-d
 loop-holds c =
     record {
       low = omega arith;
@@ -102,67 +103,67 @@ loop-holds c =
       so_far = passed_start _;
     }
 
-sewn-requires : tie.Need-sewn-requires invariant-loop decreases-loop
+sewn-requires : tie.Need-sewn-e-requires invariant-loop-d decreases-loop-d
 sewn-requires c κs =
-    let shaped = (start c.before).pre.shaped in
+    let shaped = (start c.before).requires.shaped in
     record { shaped = shaped; low = omega arith; high = shaped.bounds.dim_least }
 
-returns : tie.Need-returns invariant-loop decreases-loop
+returns : tie.Need-returns-then-back-e-ne0 invariant-loop-d decreases-loop-d
 unfolding map_of place_of
 returns c =
-    let sewn = c.before.before.before in
-    let inv = (at-loop sewn).loop.invariant in
-    let dim = (start (at-loop sewn)).pre.shaped.bounds.dim_least in
-    let inside = sewn.before.loop-test.true in
-    let stands = lt-ltb 0 (get_or (at-loop sewn).loop.back (sewn.sewn.result - 1) 0) (pos_of_ne-zero c.if2.true) in
-    let clash = clash-here inv dim inside sewn.sewn.result sewn.sewn.ensures (omega arith) (sewn-inside sewn) ∙ stands in
+    let sewn = c.before.before.before.before in
+    let inv = (at-loop sewn).loop-d.invariant in
+    let dim = (start (at-loop sewn)).requires.shaped.bounds.dim_least in
+    let inside = sewn.before.loop-d-test.true in
+    let stands = lt-ltb 0 (get_or (at-loop sewn).loop-d.back (sewn.sewn-e.result - 1) 0) (pos_of_ne-zero c.if-back-e-ne0.true) in
+    let clash = clash-here inv dim inside sewn.sewn-e.result sewn.sewn-e.ensures (omega arith) (sewn-inside sewn) ∙ stands in
     record {
       wrong = sym (clash_entry _ dim _ inv.so_far inv.low inside clash);
       whole = λ none. absurd (omega arith);
     }
 
-loop-again : tie.Need-loop-preserved invariant-loop decreases-loop
+loop-again : tie.Need-loop-d-preserved invariant-loop-d decreases-loop-d
 unfolding map_of
 loop-again c =
     let sewn = c.before in
-    let inv = (at-loop sewn).loop.invariant in
-    let dim = (start (at-loop sewn)).pre.shaped.bounds.dim_least in
-    let inside = sewn.before.loop-test.true in
-    let there = sewn.sewn.ensures in
-    ⊎_elim
-    (λ w. rw w.3 (sewing-given inv dim inside sewn.sewn.result there (pos_of_ne-zero w.0.taken) (sewn-inside sewn) w.2.left))
-    (λ w. rw w.1 (sewing-unsewn inv dim inside sewn.sewn.result there w.0.left))
-    c.if1.branch
+    let inv = (at-loop sewn).loop-d.invariant in
+    let dim = (start (at-loop sewn)).requires.shaped.bounds.dim_least in
+    let inside = sewn.before.loop-d-test.true in
+    let there = sewn.sewn-e.ensures in
+    elim c.if-e-ne0.branch [
+      | then-e-ne0+else-back-e-ne0 w ↦ rw w.back-is (sewing-given inv dim inside sewn.sewn-e.result there (pos_of_ne-zero w.if-e-ne0.true) (sewn-inside sewn) w.if-back-e-ne0.false)
+      | else-e-ne0 w ↦ rw w.back-is (sewing-unsewn inv dim inside sewn.sewn-e.result there w.if-e-ne0.false)
+    ]
 
-returns-2 : tie.Need-returns-2 invariant-loop decreases-loop
+returns-2 : tie.Need-returns invariant-loop-d decreases-loop-d
 unfolding map_of
 returns-2 c =
-    let inv = c.before.loop.invariant in
-    let all : c.before.loop.d - 1 ≡ (start c.before).args.m = omega (arith, inv.low, inv.high, c.loop-test.false) in
+    let inv = c.before.loop-d.invariant in
+    let all : c.before.loop-d.d - 1 ≡ (start c.before).args.m = omega (arith, inv.low, inv.high, c.loop-d-test.false) in
     record {
-      wrong = sym (clash_none _ (start c.before).pre.shaped.bounds.dim_least _ inv.so_far c.loop-test.false);
+      wrong = sym (clash_none _ (start c.before).requires.shaped.bounds.dim_least _ inv.so_far c.loop-d-test.false);
       whole = λ zero. backs_whole _ _ (rw all at inv.backs);
     }
 
-pub sew-back-spec : {M : Type 1} → statement M
-sew-back-spec =
+pub sew_back_spec : {M : Type 1} → statement M
+sew_back_spec =
     tie.close
     (tie.spec
-    invariant-loop
-    decreases-loop
+    invariant-loop-d
+    decreases-loop-d
     loop-holds
     sewn-requires
     (λ c. omega arith)
     (λ c. omega (arith, sewn-inside c.before))
-    (λ c. omega (arith, sewn-inside c.before))
+    (λ c. omega (arith, sewn-inside c.before.before))
     (λ c. omega arith)
-    (λ c. omega (arith, row_inside c.before.before.before))
-    (λ c. omega (arith, row_inside c.before.before.before))
+    (λ c. omega (arith, row_inside c.before.before.before.before))
+    (λ c. omega (arith, row_inside c.before.before.before.before))
     returns
-    (λ c. omega (arith, few (at-loop c.before.before.before)))
+    (λ c. omega (arith, few (at-loop c.before.before.before.before)))
     (λ c. omega arith)
-    (λ c. omega (arith, sewn-inside c.before.before.before))
-    (λ c. omega (arith, sewn-inside c.before.before.before))
+    (λ c. omega (arith, sewn-inside c.before.before.before.before))
+    (λ c. omega (arith, sewn-inside c.before.before.before.before))
     (λ c. omega (arith, few (at-loop c.before)))
     (λ c. omega arith)
     loop-again

@@ -10,31 +10,31 @@ use Rattle.maps.proofs.Given.{in_table, table_sew}
 use Rattle.maps.proofs.sewn.Statement.{statement}
 use Rattle.maps.proofs.sewn.Tie as tie
 
-abbrev start : tie.Else2 → tie.Start
+abbrev start : tie.Else-m-d → tie.Start
 start c = c.before.before.before
 
 -- where d is a dart, its entry's index is below the table's length
-here : (c : tie.Else2) →
+here : (c : tie.Else-m-d) →
     let a = (start c).args in
     (a.d - 1) * a.n + (a.i - 1) < length a.table.now
 here c =
     let s = start c in
-    in_table s.pre.shaped s.args.d s.args.i (omega arith) (omega arith) (omega arith) (omega arith)
+    in_table s.requires.shaped s.args.d s.args.i (omega arith) (omega arith) (omega arith) (omega arith)
 
-returns : tie.Need-returns
-returns c = rw c.if1.true (sym (sew_zero _ _ 0))
+returns : tie.Need-returns-then-d-eq0
+returns c = rw c.if-d-eq0.true (sym (sew_zero _ _ 0))
 
-returns-2 : tie.Need-returns-2
+returns-2 : tie.Need-returns-then-m-d
 unfolding map_of
-returns-2 c = sym (sew_outside _ _ _ c.if2.true)
+returns-2 c = sym (sew_outside _ _ _ c.if-m-d.true)
 
-returns-3 : tie.Need-returns-3
+returns-3 : tie.Need-returns
 returns-3 c =
     let s = start c.before.before in
-    c.wide.ensures ∙ sym (table_sew s.pre.shaped s.args.d s.args.i (omega arith) (omega arith) (omega arith) (omega arith))
+    c.wide.ensures ∙ sym (table_sew s.requires.shaped s.args.d s.args.i (omega arith) (omega arith) (omega arith) (omega arith))
 
-pub sewn-spec : {M : Type 1} → statement M
-sewn-spec =
+pub sewn_spec : {M : Type 1} → statement M
+sewn_spec =
     tie.close
     (tie.spec
     returns

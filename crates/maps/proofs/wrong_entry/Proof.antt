@@ -31,62 +31,62 @@ module _ (M : Map) (r : Rule) (d i : ℕ) (is : i ≡ wrong_sewing M r d) where
   unfolding wrong_sewing
   row-missed none = misses_some _ _ (least_none _ _ (sym is ∙ none))
 
-abbrev invariant-loop : tie.invariant-loop
-invariant-loop law n m table d₀ d = Seeking (map_of (lent n m table)) (rule_of law) d
+abbrev invariant-loop-d : tie.invariant-loop-d
+invariant-loop-d law n m table d₀ d = Seeking (map_of (lent n m table)) (rule_of law) d
 
-abbrev decreases-loop : tie.decreases-loop
-decreases-loop law n m table d₀ d = m + 1 - d
+abbrev decreases-loop-d : tie.decreases-loop-d
+decreases-loop-d law n m table d₀ d = m + 1 - d
 
 -- the places of this proof
-abbrev start : tie.At-loop invariant-loop decreases-loop → tie.Start invariant-loop decreases-loop
+abbrev start : tie.At-loop-d invariant-loop-d decreases-loop-d → tie.Start invariant-loop-d decreases-loop-d
 start c = c.before.before
 
-abbrev at-loop : tie.Then1 invariant-loop decreases-loop → tie.At-loop invariant-loop decreases-loop
+abbrev at-loop : tie.Then-i-ne0 invariant-loop-d decreases-loop-d → tie.At-loop-d invariant-loop-d decreases-loop-d
 at-loop c = c.before.before.before
 
-abbrev map_here : tie.At-loop invariant-loop decreases-loop → Map
+abbrev map_here : tie.At-loop-d invariant-loop-d decreases-loop-d → Map
 map_here c = let a = (start c).args in map_of (lent a.n a.m a.table.now)
 
-found : (c : tie.Then1 invariant-loop decreases-loop) → Found (λ j. (rule_of (start (at-loop c)).args.law).broken (map_here (at-loop c)) (at-loop c).loop.d j) (start (at-loop c)).args.n c.before.wrong-sewing.result
+found : (c : tie.Then-i-ne0 invariant-loop-d decreases-loop-d) → Found (λ j. (rule_of (start (at-loop c)).args.law).broken (map_here (at-loop c)) (at-loop c).loop-d.d j) (start (at-loop c)).args.n c.before.wrong_sewing-i.result
 unfolding map_of
-found c = row-found _ _ _ _ c.before.wrong-sewing.ensures c.if1.true
+found c = row-found _ _ _ _ c.before.wrong_sewing-i.ensures c.if-i-ne0.true
 
 -- the wrong entry is inside the table
-inside : (c : tie.Then1 invariant-loop decreases-loop) → ((at-loop c).loop.d - 1) * (start (at-loop c)).args.n + c.before.wrong-sewing.result ≤ 1020
+inside : (c : tie.Then-i-ne0 invariant-loop-d decreases-loop-d) → ((at-loop c).loop-d.d - 1) * (start (at-loop c)).args.n + c.before.wrong_sewing-i.result ≤ 1020
 inside c =
-    let shaped = (start (at-loop c)).pre in
+    let shaped = (start (at-loop c)).requires in
     let f = found c in
-    omega (arith, in_table shaped (at-loop c).loop.d c.before.wrong-sewing.result (omega arith) (omega arith) f.low f.high, shaped.long)
+    omega (arith, in_table shaped (at-loop c).loop-d.d c.before.wrong_sewing-i.result (omega arith) (omega arith) f.low f.high, shaped.long)
 
-returns : tie.Need-returns invariant-loop decreases-loop
+returns : tie.Need-returns-then-i-ne0 invariant-loop-d decreases-loop-d
 unfolding map_of place_of
 returns c =
-    let inv = (at-loop c).loop.invariant in
-    sym (wrong_entry_row _ _ (start (at-loop c)).pre.bounds.dim_least _ _ (inv.low, omega arith) inv.so_far (found c))
+    let inv = (at-loop c).loop-d.invariant in
+    sym (wrong_entry_row _ _ (start (at-loop c)).requires.bounds.dim_least _ _ (inv.low, omega arith) inv.so_far (found c))
 
-loop-again : tie.Need-loop-preserved invariant-loop decreases-loop
+loop-again : tie.Need-loop-d-preserved invariant-loop-d decreases-loop-d
 loop-again c =
-    let inv = c.before.before.before.loop.invariant in
-    record { low = omega arith; so_far = passed_turn _ inv.so_far (row-missed _ _ _ _ c.before.wrong-sewing.ensures c.if1.false) }
+    let inv = c.before.before.before.loop-d.invariant in
+    record { low = omega arith; so_far = passed_turn _ inv.so_far (row-missed _ _ _ _ c.before.wrong_sewing-i.ensures c.if-i-ne0.false) }
 
-returns-2 : tie.Need-returns-2 invariant-loop decreases-loop
+returns-2 : tie.Need-returns invariant-loop-d decreases-loop-d
 unfolding map_of
 returns-2 c =
-    sym (wrong_entry_rows _ _ (start c.before).pre.bounds.dim_least (passed_misses _ c.before.loop.invariant.so_far (omega arith)))
+    sym (wrong_entry_rows _ _ (start c.before).requires.bounds.dim_least (passed_misses _ c.before.loop-d.invariant.so_far (omega arith)))
 
-pub wrong-entry-spec : {M : Type 1} → statement M
-wrong-entry-spec =
+pub wrong_entry_spec : {M : Type 1} → statement M
+wrong_entry_spec =
     tie.close
     (tie.spec
-    invariant-loop
-    decreases-loop
+    invariant-loop-d
+    decreases-loop-d
     (λ c. record { low = omega arith; so_far = passed_start _ })
-    (λ c κs. (start c.before).pre)
+    (λ c κs. (start c.before).requires)
     (λ c. omega arith)
     (λ c. omega (arith, inside c))
     (λ c. omega (arith, inside c))
     returns
-    (λ c. omega (arith, darts_most (start c.before.before.before).pre.bounds))
+    (λ c. omega (arith, darts_most (start c.before.before.before).requires.bounds))
     (λ c. omega arith)
     loop-again
     returns-2)

@@ -18,45 +18,45 @@ record Seeking (M : Map) (r : Rule) (d i : ℕ) : Type 0 where
   low : 1 ≤ i
   so_far : Passed (λ j. r.broken M d j) i
 
-abbrev invariant-loop : tie.invariant-loop
-invariant-loop law n m table d i₀ i = Seeking (map_of (lent n m table)) (rule_of law) d i
+abbrev invariant-loop-i : tie.invariant-loop-i
+invariant-loop-i law n m table d i₀ i = Seeking (map_of (lent n m table)) (rule_of law) d i
 
-abbrev decreases-loop : tie.decreases-loop
-decreases-loop law n m table d i₀ i = n + 1 - i
+abbrev decreases-loop-i : tie.decreases-loop-i
+decreases-loop-i law n m table d i₀ i = n + 1 - i
 
-loop-holds : tie.Need-loop-init invariant-loop decreases-loop
+loop-holds : tie.Need-loop-i-init invariant-loop-i decreases-loop-i
 loop-holds c =
     let law = c.before.before.args.law in
-    rw c.least-sewing.ensures (record { low = low_of_low law; so_far = spoken law _ _ })
+    rw c.least_sewing-i.ensures (record { low = low_of_low law; so_far = spoken law _ _ })
 
-breaks-requires : tie.Need-breaks-requires invariant-loop decreases-loop
+breaks-requires : tie.Need-breaks-requires invariant-loop-i decreases-loop-i
 breaks-requires c κs =
     let at-loop = c.before in
-    record { shaped = at-loop.before.before.before.requires; low = at-loop.loop.invariant.low; high = omega arith }
+    record { shaped = at-loop.before.before.before.requires; low = at-loop.loop-i.invariant.low; high = omega arith }
 
-returns : tie.Need-returns invariant-loop decreases-loop
+returns : tie.Need-returns-then-breaks invariant-loop-i decreases-loop-i
 unfolding wrong_sewing map_of
 returns c =
-    let inv = c.before.before.before.loop.invariant in
-    let hit = sym c.before.breaks.ensures ∙ c.if1.true in
+    let inv = c.before.before.before.loop-i.invariant in
+    let hit = sym c.before.breaks.ensures ∙ c.if-breaks.true in
     sym (least_is _ _ (passed_found _ inv.so_far inv.low (omega arith) hit))
 
-loop-again : tie.Need-loop-preserved invariant-loop decreases-loop
+loop-again : tie.Need-loop-i-preserved invariant-loop-i decreases-loop-i
 loop-again c =
-    let inv = c.before.before.before.loop.invariant in
-    let miss = sym c.before.breaks.ensures ∙ c.if1.false in
+    let inv = c.before.before.before.loop-i.invariant in
+    let miss = sym c.before.breaks.ensures ∙ c.if-breaks.false in
     record { low = omega arith; so_far = passed_turn _ inv.so_far miss }
 
-returns-2 : tie.Need-returns-2 invariant-loop decreases-loop
+returns-2 : tie.Need-returns invariant-loop-i decreases-loop-i
 unfolding wrong_sewing map_of
-returns-2 c = sym (none_least _ _ (passed_misses _ c.before.loop.invariant.so_far (omega arith)))
+returns-2 c = sym (none_least _ _ (passed_misses _ c.before.loop-i.invariant.so_far (omega arith)))
 
-pub wrong-sewing-spec : {M : Type 1} → statement M
-wrong-sewing-spec =
+pub wrong_sewing_spec : {M : Type 1} → statement M
+wrong_sewing_spec =
     tie.close
     (tie.spec
-    invariant-loop
-    decreases-loop
+    invariant-loop-i
+    decreases-loop-i
     (λ c κs. search rules)
     loop-holds
     breaks-requires

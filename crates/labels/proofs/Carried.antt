@@ -46,7 +46,7 @@ within_visit {m} {q} {d} w h = at (eqb d 0 || ltb 0 (label_in q d))
 within_visits : {m : ℕ} {q ds : List ℕ} → Within m q → Within m ds → Within m (visits q ds)
 unfolding visits
 within_visits w none = w
-within_visits w (more h v) = within_visits (within_visit w h) v
+within_visits {q = q} w (more {d = d} h v) = within_visits {q = visit q d} (within_visit w h) v
 
 module _ {M M' : Map} {f : List ℕ} (m : Matching M M' f) where
   eqb_carried : (d e : ℕ) → d ≤ M.darts → e ≤ M.darts → eqb (nth f d) (nth f e) ≡ eqb d e
@@ -75,8 +75,8 @@ module _ {M M' : Map} {f : List ℕ} (m : Matching M M' f) where
   pub visits_carried : {q ds : List ℕ} → Within M.darts q → Within M.darts ds → visits (map (nth f) q) (map (nth f) ds) ≡ map (nth f) (visits q ds)
   unfolding visits
   visits_carried w none = refl
-  visits_carried w (more {d = d} {q = ds} h v) =
-      ap (λ (l : List ℕ). visits l (map (nth f) ds)) (visit_carried w d h) ∙ visits_carried (within_visit w h) v
+  visits_carried {q = q} w (more {d = d} {q = ds} h v) =
+      ap (λ (l : List ℕ). visits l (map (nth f) ds)) (visit_carried w d h) ∙ visits_carried {q = visit q d} (within_visit w h) v
 
 module _ {M : Map} (o : OpenMap M) where
   tries_within : (d : ℕ) (is : List ℕ) → Within M.darts (map (λ i. sew M i d) is)

@@ -289,7 +289,7 @@ module _ (M : Map) (q : List ℕ) (d : ℕ) where
 
   pub tried_suc : (k : ℕ) → tried M q d (suc k) ≡ visit (tried M q d k) (sew M (suc k) d)
   unfolding tried visits up_to
-  tried_suc k = rw map_append (visits-append q (map (λ i. sew M i d) (0 ∷ up_to k)) (sew M (suc k) d ∷ []))
+  tried_suc k = rw (map_append (λ i. sew M i d) (0 ∷ up_to k) (suc k ∷ [])) (visits-append q (map (λ i. sew M i d) (0 ∷ up_to k)) (sew M (suc k) d ∷ []))
 
   -- what is tried later only adds to the queue
   pub tried_grown : (i k : ℕ) → i ≤ k → Grown (tried M q d i) (tried M q d k)

@@ -20,4 +20,4 @@ pub mod FirstRow
 pub mod Trying
 pub mod Match
 pub mod MatchTheorems
-pub mod Own
+pub mod OwnWord

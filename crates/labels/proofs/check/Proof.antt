@@ -8,5 +8,5 @@ returns : tie.Need-returns
 unfolding check_answer
 returns c = c.judge.ensures.answer.verdict
 
-pub check-spec : {M : Type 1} → statement M
-check-spec = tie.close (tie.spec (λ c κs. search rules) returns)
+pub check_spec : {M : Type 1} → statement M
+check_spec = tie.close (tie.spec (λ c κs. search rules) returns)

@@ -47,25 +47,25 @@ clearing-done {labels} {m} {k} c past =
     which i (passes e) = inl (ltb-true i k e)
     which i (fails e) = inr (omega (arith, ltb-false i k e))
 
-abbrev invariant-loop : tie.invariant-loop
-invariant-loop labels₀ m i₀ labels i = Clearing labels m i
+abbrev invariant-loop-i : tie.invariant-loop-i
+invariant-loop-i labels₀ m i₀ labels i = Clearing labels m i
 
-abbrev decreases-loop : tie.decreases-loop
-decreases-loop labels₀ m i₀ labels i = m - i
+abbrev decreases-loop-i : tie.decreases-loop-i
+decreases-loop-i labels₀ m i₀ labels i = m - i
 
-inside : (c : tie.In-loop invariant-loop decreases-loop) → c.before.loop.i < 1020
-inside c = omega (arith, c.before.before.requires.few, c.loop-test.true)
+inside : (c : tie.In-loop-i invariant-loop-i decreases-loop-i) → c.before.loop-i.i < 1020
+inside c = omega (arith, c.before.before.requires.few, c.loop-i-test.true)
 
 pub clear_spec : {M : Type 1} → statement M
 clear_spec =
     tie.close
     (tie.spec
-    invariant-loop
-    decreases-loop
+    invariant-loop-i
+    decreases-loop-i
     (λ c. clearing-start c.requires)
     (λ c. omega (arith, inside c))
-    (λ c. inside c)
-    (λ c. omega (arith, inside c))
+    (λ c. inside c.before)
+    (λ c. omega (arith, inside c.before))
     (λ c. omega arith)
-    (λ c. clearing-turn c.before.loop.invariant (inside c))
-    (λ c. clearing-done c.before.loop.invariant c.loop-test.false))
+    (λ c. clearing-turn c.before.loop-i.invariant (inside c.before))
+    (λ c. clearing-done c.before.loop-i.invariant c.loop-i-test.false))

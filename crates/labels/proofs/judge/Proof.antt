@@ -13,46 +13,46 @@ use Rattle.labels.proofs.judge.Statement.{statement}
 use Rattle.labels.proofs.judge.Tie as tie
 
 -- the places of this proof
-abbrev judged : tie.After-enum-told → tie.After-judge
-judged c = c.before.before
+abbrev judged : tie.In-Passed → tie.After-judge-judged
+judged c = c.before
 
-abbrev told : tie.After-not-reached → tie.After-enum-told
-told c = c.before.before.before
+abbrev told : tie.After-not_reached-place → tie.In-Passed
+told c = c.before.before
 
 -- rules 1 to 8 accept
-accepting : (c : tie.After-enum-told) →
+accepting : (c : tie.In-Passed) →
     let a = (judged c).before.before.before.before.args in
     accepts (judge_sewing a.output (lent a.n a.m a.table.now)) ≡ true
-accepting c = passed_accepts _ (sym c.enum_told.given.1 ∙ (judged c).judge.ensures.verdict)
+accepting c = passed_accepts _ (sym c.in-Passed.is ∙ (judged c).judge-judged.ensures.verdict)
 
-returns : tie.Need-returns
+returns : tie.Need-returns-in_default
 returns c =
-    let answer = c.before.before.judge.ensures in
-    record { answer = as_same (nine_before _ _ (refused-accepts _ _ _ (sym c.enum-told2.given.1 ∙ answer.verdict))) answer; blank = refl }
+    let answer = c.before.judge-judged.ensures in
+    record { answer = as_same (nine_before _ _ (refused-accepts _ _ _ (sym c.in_default.is ∙ answer.verdict))) answer; blank = refl }
 
-not-reached-requires : tie.Need-not-reached-requires
+not-reached-requires : tie.Need-not_reached-place-requires
 not-reached-requires c κs =
-    let passed = c.before.before in
+    let passed = c.before in
     let left = sewing_clear _ _ (sewing_whole _ _ (accepting passed)) in
-    (record { shaped = left.0; within = left.1.to_darts; backs = (judged passed).judge.ensures.backs ∙ simp (accepting passed) }, refl)
+    (record { shaped = left.0; within = left.1.to_darts; backs = (judged passed).judge-judged.ensures.backs ∙ simp (accepting passed) }, refl)
 
-returns-2 : tie.Need-returns-2
+returns-2 : tie.Need-returns-then-place-eq0
 returns-2 c =
     let passed = told c.before in
-    let none = nine_none _ _ (accepting passed) (sym c.before.not-reached.ensures.0 ∙ c.if1.true) in
+    let none = nine_none _ _ (accepting passed) (sym c.before.not_reached-place.ensures.0 ∙ c.if-place-eq0.true) in
     record {
-      answer = as_passed (none ∙ sewing_whole _ _ (accepting passed)) refl ((judged passed).judge.ensures.backs ∙ simp (accepting passed));
-      blank = c.before.not-reached.ensures.1;
+      answer = as_passed (none ∙ sewing_whole _ _ (accepting passed)) refl ((judged passed).judge-judged.ensures.backs ∙ simp (accepting passed));
+      blank = c.before.not_reached-place.ensures.1;
     }
 
-returns-3 : tie.Need-returns-3
+returns-3 : tie.Need-returns
 returns-3 c =
     let passed = told c.before.before in
-    let nine = c.before.before.not-reached.ensures in
-    record { answer = as_refused 9 _ (omega arith) (nine_refused _ _ (accepting passed) _ nine.0 c.before.if1.false) refl refl; blank = nine.1 }
+    let nine = c.before.before.not_reached-place.ensures in
+    record { answer = as_refused 9 _ (omega arith) (nine_refused _ _ (accepting passed) _ nine.0 c.before.if-place-eq0.false) refl refl; blank = nine.1 }
 
-pub judge-spec : {M : Type 1} → statement M
-judge-spec =
+pub judge_spec : {M : Type 1} → statement M
+judge_spec =
     tie.close
     (tie.spec
     (λ c κs. search rules)

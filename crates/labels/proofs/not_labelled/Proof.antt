@@ -18,39 +18,39 @@ record Seeking (labels : List ℕ) (m d : ℕ) : Type 0 where
   high : d ≤ m + 1
   so_far : Passed (λ e. eqb (get_or labels (e - 1) 0) 0) d
 
-abbrev invariant-loop : tie.invariant-loop
-invariant-loop m labels d₀ d = Seeking labels m d
+abbrev invariant-loop-d : tie.invariant-loop-d
+invariant-loop-d m labels d₀ d = Seeking labels m d
 
-abbrev decreases-loop : tie.decreases-loop
-decreases-loop m labels d₀ d = m + 1 - d
+abbrev decreases-loop-d : tie.decreases-loop-d
+decreases-loop-d m labels d₀ d = m + 1 - d
 
-returns : tie.Need-returns invariant-loop decreases-loop
+returns : tie.Need-returns-then-wide-eq0 invariant-loop-d decreases-loop-d
 unfolding not_labelled
 returns c =
     let read = c.before in
-    let inv = read.before.before.before.loop.invariant in
-    sym (least_is _ _ (passed_found _ inv.so_far inv.low (omega arith) (eq-eqb _ 0 (sym read.wide.ensures ∙ c.if1.true))))
+    let inv = read.before.before.before.loop-d.invariant in
+    sym (least_is _ _ (passed_found _ inv.so_far inv.low (omega arith) (eq-eqb _ 0 (sym read.wide.ensures ∙ c.if-wide-eq0.true))))
 
-loop-again : tie.Need-loop-preserved invariant-loop decreases-loop
+loop-again : tie.Need-loop-d-preserved invariant-loop-d decreases-loop-d
 loop-again c =
     let read = c.before in
-    let inv = read.before.before.before.loop.invariant in
+    let inv = read.before.before.before.loop-d.invariant in
     record {
       low = omega arith;
       high = omega arith;
-      so_far = passed_turn _ inv.so_far (ne_eqb _ 0 (λ z. c.if1.false (read.wide.ensures ∙ z)));
+      so_far = passed_turn _ inv.so_far (ne_eqb _ 0 (λ z. c.if-wide-eq0.false (read.wide.ensures ∙ z)));
     }
 
-returns-2 : tie.Need-returns-2 invariant-loop decreases-loop
+returns-2 : tie.Need-returns invariant-loop-d decreases-loop-d
 unfolding not_labelled
-returns-2 c = sym (none_least _ _ (passed_misses _ c.before.loop.invariant.so_far c.loop-test.false))
+returns-2 c = sym (none_least _ _ (passed_misses _ c.before.loop-d.invariant.so_far c.loop-d-test.false))
 
-pub not-labelled-spec : {M : Type 1} → statement M
-not-labelled-spec =
+pub not_labelled_spec : {M : Type 1} → statement M
+not_labelled_spec =
     tie.close
     (tie.spec
-    invariant-loop
-    decreases-loop
+    invariant-loop-d
+    decreases-loop-d
     (λ c. record { low = omega arith; high = omega arith; so_far = passed_start _ })
     (λ c. omega arith)
     (λ c. omega arith)

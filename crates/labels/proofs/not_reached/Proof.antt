@@ -22,8 +22,8 @@ use Rattle.labels.proofs.not_reached.Tie as tie
 abbrev start : tie.After-reach → tie.Start
 start c = c.before.before.before.before
 
-abbrev reached : tie.After-not-labelled → tie.After-reach
-reached c = c.before.before
+abbrev reached : tie.After-not_labelled-place → tie.After-reach
+reached c = c.before
 
 -- a queue of the map's darts labels no other
 beyond-darts : {M : Map} {labels queue q : List ℕ} {given : ℕ} → DartsOnce M q → Holds labels queue given q → (i : ℕ) → M.darts ≤ i → i < 1020 → get_or labels i 0 ≡ 0
@@ -45,20 +45,20 @@ clear-requires c κs =
     record { few = few (start r); long = done.holds.long_labels; beyond = beyond-darts done.good done.holds }
 
 -- what is found without a label is what is not reached
-found : (c : tie.After-not-labelled) →
+found : (c : tie.After-not_labelled-place) →
     let a = (start (reached c)).args in
-    c.not-labelled.result ≡ not_reached (map_of (lent a.n a.m a.table.now))
+    c.not_labelled-place.result ≡ not_reached (map_of (lent a.n a.m a.table.now))
 unfolding map_of not_reached not_labelled
 found c =
     let r = reached c in
-    c.not-labelled.ensures
+    c.not_labelled-place.ensures
     ∙ least_cong (λ d low high. ap (λ (l : ℕ). eqb l 0) (r.reach.ensures.holds.label d low (omega (arith, few (start r)))))
 
-pub not-reached-spec : {M : Type 1} → statement M
-not-reached-spec =
+pub not_reached_spec : {M : Type 1} → statement M
+not_reached_spec =
     tie.close
     (tie.spec
     (λ c κs. record { sewn = c.before.before.before.requires.0; blank = c.before.before.before.requires.1; long_queue = length-replicate {A = ℕ} 1020 0 })
-    (λ c κs. few (start c.before))
+    (λ c κs. few (start c))
     clear-requires
     (λ c. (found c.before.before, c.clear.ensures)))

@@ -10,24 +10,24 @@ use Rattle.labels.proofs.Inside.{Running, holds_own, running_start, running_queu
 use Rattle.labels.proofs.reach.Statement.{statement}
 use Rattle.labels.proofs.reach.Tie as tie
 
-abbrev invariant-loop : tie.invariant-loop
-invariant-loop n m table back labels₀ queue₀ labelling₀ k₀ labels queue labelling k = Running (map_of (lent n m table)) 1 labels queue labelling.given k
+abbrev invariant-loop-k : tie.invariant-loop-k
+invariant-loop-k n m table back labels₀ queue₀ labelling₀ k₀ labels queue labelling k = Running (map_of (lent n m table)) 1 labels queue labelling.given k
 
-abbrev decreases-loop : tie.decreases-loop
-decreases-loop n m table back labels₀ queue₀ labelling₀ k₀ labels queue labelling k = m - k
+abbrev decreases-loop-k : tie.decreases-loop-k
+decreases-loop-k n m table back labels₀ queue₀ labelling₀ k₀ labels queue labelling k = m - k
 
 -- the places of this proof
 abbrev Start : Type 0
-Start = tie.Start invariant-loop decreases-loop
+Start = tie.Start invariant-loop-k decreases-loop-k
 
-abbrev at-loop : tie.Then1 invariant-loop decreases-loop → tie.At-loop invariant-loop decreases-loop
+abbrev at-loop : tie.In-loop-k invariant-loop-k decreases-loop-k → tie.At-loop-k invariant-loop-k decreases-loop-k
 at-loop c = c.before.before
 
-abbrev start : tie.At-loop invariant-loop decreases-loop → Start
-start c = c.before.before
+abbrev start : tie.At-loop-k invariant-loop-k decreases-loop-k → Start
+start c = c.before.before.before.before
 
-abbrev in-loop : tie.After-wide invariant-loop decreases-loop → tie.Then1 invariant-loop decreases-loop
-in-loop c = c.before.before
+abbrev in-loop : tie.After-wide-served invariant-loop-k decreases-loop-k → tie.In-loop-k invariant-loop-k decreases-loop-k
+in-loop c = c.before.before.before
 
 few : (s : Start) → s.args.m ≤ 1020
 few s = darts_most s.requires.sewn.shaped.bounds
@@ -37,66 +37,66 @@ first : (s : Start) → IsDart (map_of (lent s.args.n s.args.m s.args.table.now)
 unfolding map_of
 first s = (omega arith, s.requires.sewn.shaped.bounds.darts_least)
 
-loop-holds : tie.Need-loop-init invariant-loop decreases-loop
+loop-holds : tie.Need-loop-k-init invariant-loop-k decreases-loop-k
 unfolding map_of
 loop-holds c =
     let s = c.before in
-    rw s.requires.blank (running_start _ s.requires.sewn.within 1 (first s) (few s) s.args.queue.now s.requires.long_queue)
+    rw s.requires.blank (running_start _ s.requires.sewn.within 1 (first s.before.before) (few s.before.before) s.args.queue.now s.requires.long_queue)
 
 -- in a turn the next dart to serve stands in the array
-turn : (c : tie.Then1 invariant-loop decreases-loop) → (at-loop c).loop.k < 1020
+turn : (c : tie.In-loop-k invariant-loop-k decreases-loop-k) → (at-loop c).loop-k.k < 1020
 unfolding map_of
-turn c = omega (arith, (at-loop c).loop.invariant.few, few (start (at-loop c)))
+turn c = omega (arith, (at-loop c).loop-k.invariant.few, few (start (at-loop c)))
 
-serve-requires : tie.Need-serve-requires invariant-loop decreases-loop
+serve-requires : tie.Need-serve-labelling-requires invariant-loop-k decreases-loop-k
 unfolding map_of
 serve-requires c κs =
     let read = c.before.before in
     let s = start (at-loop (in-loop read)) in
-    let inv = (at-loop (in-loop read)).loop.inv in
+    let inv = (at-loop (in-loop read)).loop-k.invariant in
     record {
-      sewn = s.pre.sewn;
-      dart = rw read.wide.ensures (running_dart _ s.pre.sewn.within _ (first s) inv (in-loop read).if1.true);
-      good = running_queue _ s.pre.sewn.within _ (first s) inv;
+      sewn = s.requires.sewn;
+      dart = rw read.wide-served.ensures (running_dart _ s.requires.sewn.within _ (first s) inv (in-loop read).loop-k-test.true);
+      good = running_queue _ s.requires.sewn.within _ (first s) inv;
       holds = holds_own inv.holds;
     }
 
-loop-less : tie.Need-loop-smaller invariant-loop decreases-loop
+loop-less : tie.Need-loop-k-smaller invariant-loop-k decreases-loop-k
 unfolding map_of
 loop-less c =
     let t = in-loop c.before.before.before in
-    omega (arith, t.if1.taken, (at-loop t).loop.inv.few)
+    omega (arith, t.loop-k-test.true, (at-loop t).loop-k.invariant.few)
 
-loop-again : tie.Need-loop-preserved invariant-loop decreases-loop
+loop-again : tie.Need-loop-k-preserved invariant-loop-k decreases-loop-k
 unfolding map_of
 loop-again c =
     let read = c.before.before.before in
     let t = in-loop read in
     let s = start (at-loop t) in
-    running_turn _ s.pre.sewn.within _ (first s) (at-loop t).loop.inv t.if1.taken
-    (rw (← read.wide.ensures) c.serve.ensures.holds)
+    running_turn _ s.requires.sewn.within _ (first s) (at-loop t).loop-k.invariant t.loop-k-test.true
+    (rw (← read.wide-served.ensures) c.serve-labelling.ensures.holds)
 
-returns : tie.Need-returns invariant-loop decreases-loop
+returns : tie.Need-returns invariant-loop-k decreases-loop-k
 unfolding map_of
 returns c =
     let s = start c.before.before in
     record {
-      given = c.before.before.loop.labelling.given;
-      good = labelling_queue _ s.pre.sewn.within 1 (first s);
-      holds = running_done _ s.pre.sewn.within _ (first s) c.before.before.loop.invariant c.if1.false;
+      given = c.before.before.loop-k.labelling.given;
+      good = labelling_queue _ s.requires.sewn.within 1 (first s);
+      holds = running_done _ s.requires.sewn.within _ (first s) c.before.before.loop-k.invariant c.loop-k-test.false;
     }
 
-pub reach-spec : {M : Type 1} → statement M
-reach-spec =
+pub reach_spec : {M : Type 1} → statement M
+reach_spec =
     tie.close
     (tie.spec
-    invariant-loop
-    decreases-loop
+    invariant-loop-k
+    decreases-loop-k
     (λ c. search rules)
     (λ c. search rules)
     loop-holds
     (λ c. omega (arith, turn c))
-    (λ c. turn c)
+    (λ c. turn c.before)
     (λ c κs. search rules)
     serve-requires
     (λ c. omega (arith, turn (in-loop c.before.before.before)))

@@ -11,35 +11,35 @@ use Rattle.labels.proofs.Labelling.meet.Statement.{statement}
 use Rattle.labels.proofs.Labelling.meet.Tie as tie
 
 -- where 0 stands in the array, the dart has no label
-unlabelled : (c : tie.Else2) →
+unlabelled : (c : tie.Else-wide-ne0) →
     let a = c.before.before.before.before.args in
     label_in (take a.self.given a.queue.now) a.e ≡ 0
 unlabelled c =
     let start = c.before.before.before.before in
-    sym (start.requires.holds.label start.args.e (omega arith) start.requires.within) ∙ sym c.before.wide.ensures ∙ c.if2.false
+    sym (start.requires.holds.label start.args.e (omega arith) start.requires.within) ∙ sym c.before.wide.ensures ∙ c.if-wide-ne0.false
 
-returns : tie.Need-returns
-returns c = holds_same c.before.requires.holds (visit_nothing _ _ c.if1.true)
+returns : tie.Need-returns-then-e-eq0
+returns c = holds_same c.before.requires.holds (visit_nothing _ _ c.if-e-eq0.true)
 
-returns-2 : tie.Need-returns-2
+returns-2 : tie.Need-returns-then-wide-ne0
 returns-2 c =
     let start = c.before.before.before.before in
     let label = start.requires.holds.label start.args.e (omega arith) (omega arith) in
-    let labelled = pos_of_ne-zero (λ z. c.if2.true (c.before.wide.ensures ∙ label ∙ z)) in
+    let labelled = pos_of_ne-zero (λ z. c.if-wide-ne0.true (c.before.wide.ensures ∙ label ∙ z)) in
     holds_same start.requires.holds (visit_old _ _ labelled)
 
-element-write-queue : tie.Need-element-write-queue
+element-write-queue : tie.Need-bounds-queue-given
 element-write-queue c =
     let start = c.before.before.before.before in
-    start.requires.room (omega arith) (unlabelled c)
+    start.requires.room (omega arith) (unlabelled c.before)
 
-returns-3 : tie.Need-returns-3
+returns-3 : tie.Need-returns
 returns-3 c =
     let start = c.before.before.before.before in
-    holds_new start.requires.holds start.args.e (omega arith) start.requires.within (unlabelled c) (start.requires.room (omega arith) (unlabelled c))
+    holds_new start.requires.holds start.args.e (omega arith) start.requires.within (unlabelled c.before) (start.requires.room (omega arith) (unlabelled c.before))
 
-pub meet-spec : {M : Type 1} → statement M
-meet-spec =
+pub meet_spec : {M : Type 1} → statement M
+meet_spec =
     tie.close
     (tie.spec
     returns

@@ -33,25 +33,25 @@ tried-turn M d q i so_far e is h =
     ∙ ap (λ (l : List ℕ). visit l e) (sym so_far.so_far))
 
 -- β1, .. βi of d are met: where the arrays held what d has tried of q, they still do
-abbrev invariant-loop : tie.invariant-loop
-invariant-loop n m table back labels₀ queue₀ d labelling₀ row i₀ labels queue labelling i =
+abbrev invariant-loop-i : tie.invariant-loop-i
+invariant-loop-i n m table back labels₀ queue₀ d labelling₀ row i₀ labels queue labelling i =
     let M = map_of (lent n m table) in
     (i ≤ n) × ((q : List ℕ) → Holds labels₀ queue₀ labelling₀.given (tried M q d 0) → Holds labels queue labelling.given (tried M q d i))
 
-abbrev decreases-loop : tie.decreases-loop
-decreases-loop n m table back labels₀ queue₀ d labelling₀ row i₀ labels queue labelling i = n - i
+abbrev decreases-loop-i : tie.decreases-loop-i
+decreases-loop-i n m table back labels₀ queue₀ d labelling₀ row i₀ labels queue labelling i = n - i
 
 -- the places of this proof
 abbrev Start : Type 0
-Start = tie.Start invariant-loop decreases-loop
+Start = tie.Start invariant-loop-i decreases-loop-i
 
-abbrev start : tie.After-wide invariant-loop decreases-loop → Start
-start c = c.before.before.before.before.before
+abbrev start : tie.After-wide invariant-loop-i decreases-loop-i → Start
+start c = c.before.before.before.before.before.before
 
-abbrev at-loop : tie.After-meet-arg4 invariant-loop decreases-loop → tie.At-loop invariant-loop decreases-loop
+abbrev at-loop : tie.After-meet-arg-in-loop-i-2-1 invariant-loop-i decreases-loop-i → tie.At-loop-i invariant-loop-i decreases-loop-i
 at-loop c = c.before.before.before
 
-abbrev from : tie.At-loop invariant-loop decreases-loop → Start
+abbrev from : tie.At-loop-i invariant-loop-i decreases-loop-i → Start
 from c = start c.before.before
 
 abbrev map_here : Start → Map
@@ -73,89 +73,89 @@ row_fits : (s : Start) (i : ℕ) → i < s.args.n → (s.args.d - 1) * s.args.n 
 row_fits s i below = let shaped = s.requires.sewn.shaped in omega (arith, in-the-row s i below, shaped.long, shaped.bounds.table_most)
 
 -- what stands in the array of β0 is β0 of the dart
-back_is : (c : tie.After-wide invariant-loop decreases-loop) → c.wide.result ≡ sew (map_here (start c)) 0 (start c).args.d
+back_is : (c : tie.After-wide invariant-loop-i decreases-loop-i) → c.wide.result ≡ sew (map_here (start c)) 0 (start c).args.d
 unfolding map_of
 back_is c =
     let s = start c in
     c.wide.ensures
-    ∙ ap (λ (l : List ℕ). get_or l (s.args.d - 1) 0) s.pre.sewn.backs
-    ∙ backs_sew _ s.args.d s.pre.dart (inside s).1
+    ∙ ap (λ (l : List ℕ). get_or l (s.args.d - 1) 0) s.requires.sewn.backs
+    ∙ backs_sew _ s.args.d s.requires.dart (inside s).1
 
 -- what stands in its row is βi of it
-entry_is : (c : tie.After-wide2 invariant-loop decreases-loop) →
+entry_is : (c : tie.After-wide-in-loop-i invariant-loop-i decreases-loop-i) →
     let l = at-loop c.before.before in
-    c.wide2.result ≡ sew (map_here (from l)) (suc l.loop.i) (from l).args.d
+    c.wide-in-loop-i.result ≡ sew (map_here (from l)) (suc l.loop-i.i) (from l).args.d
 entry_is c =
     let l = at-loop c.before.before in
-    c.wide2.ensures ∙ row_sew (from l).pre.sewn.shaped (from l).args.d l.loop.i (from l).pre.dart (omega arith)
+    c.wide-in-loop-i.ensures ∙ row_sew (from l).requires.sewn.shaped (from l).args.d l.loop-i.i (from l).requires.dart (omega arith)
 
 -- what is met is a dart of the map, or 0
-back-few : (c : tie.After-wide invariant-loop decreases-loop) → c.wide.result ≤ (start c).args.m
+back-few : (c : tie.After-wide invariant-loop-i decreases-loop-i) → c.wide.result ≤ (start c).args.m
 unfolding map_of
 back-few c = omega (arith, back_is c, (start c).requires.sewn.within 0 (start c).args.d)
 
-entry-few : (c : tie.After-wide2 invariant-loop decreases-loop) → c.wide2.result ≤ (from (at-loop c.before.before)).args.m
+entry-few : (c : tie.After-wide-in-loop-i invariant-loop-i decreases-loop-i) → c.wide-in-loop-i.result ≤ (from (at-loop c.before.before)).args.m
 unfolding map_of
 entry-few c =
     let l = at-loop c.before.before in
-    omega (arith, entry_is c, (from l).pre.sewn.within (suc l.loop.i) (from l).args.d)
+    omega (arith, entry_is c, (from l).requires.sewn.within (suc l.loop-i.i) (from l).args.d)
 
 -- β0 is met
-first-met : (c : tie.After-meet invariant-loop decreases-loop) →
+first-met : (c : tie.After-meet-labelling invariant-loop-i decreases-loop-i) →
     let s = start c.before in
     visit (take s.args.self.given s.args.queue.now) c.before.wide.result ≡ tried (map_here s) (take s.args.self.given s.args.queue.now) s.args.d 0
 first-met c = let s = start c.before in ap (visit _) (back_is c.before) ∙ sym (tried_zero (map_here s) _ s.args.d)
 
 -- the queue held in a turn
-held : (l : tie.At-loop invariant-loop decreases-loop) →
+held : (l : tie.At-loop-i invariant-loop-i decreases-loop-i) →
     let s = from l in
-    Holds l.loop.labels l.loop.queue l.loop.labelling.given (tried (map_here s) (take s.args.self.given s.args.queue.now) s.args.d l.loop.i)
-held l = l.loop.invariant.1 _ (holds_same l.before.meet.ensures (sym (first-met l.before)))
+    Holds l.loop-i.labels l.loop-i.queue l.loop-i.labelling.given (tried (map_here s) (take s.args.self.given s.args.queue.now) s.args.d l.loop-i.i)
+held l = l.loop-i.invariant.1 _ (holds_same l.before.meet-labelling.ensures (sym (first-met l.before)))
 
-meet-requires : tie.Need-meet-requires invariant-loop decreases-loop
+meet-requires : tie.Need-meet-labelling-requires invariant-loop-i decreases-loop-i
 unfolding map_of
-meet-requires c κs = let s = start c in holds_meets s.pre.holds s.pre.good (few s) _ (back-few c)
+meet-requires c κs = let s = start c in holds_meets s.requires.holds s.requires.good (few s) _ (back-few c)
 
-mul-row : tie.Need-overflow-mul-row invariant-loop decreases-loop
-mul-row c = let s = start c.before in omega (arith, row_fits s 0 s.pre.sewn.shaped.bounds.dim_least)
+mul-row : tie.Need-overflow_mul-row invariant-loop-i decreases-loop-i
+mul-row c = let s = start c.before in omega (arith, row_fits s 0 s.requires.sewn.shaped.bounds.dim_least)
 
-meet-requires-2 : tie.Need-meet-requires-2 invariant-loop decreases-loop
+meet-requires-2 : tie.Need-meet-labelling-requires-in-loop-i invariant-loop-i decreases-loop-i
 unfolding map_of
 meet-requires-2 c κs =
     let l = at-loop c.before.before in
     let s = from l in
-    holds_meets (held l) (tried_queue _ s.pre.sewn.within s.pre.good s.args.d l.loop.i) (few s) _ (entry-few c)
+    holds_meets (held l) (tried_queue _ s.requires.sewn.within s.requires.good s.args.d l.loop-i.i) (few s) _ (entry-few c)
 
-loop-again : tie.Need-loop-preserved invariant-loop decreases-loop
+loop-again : tie.Need-loop-i-preserved invariant-loop-i decreases-loop-i
 loop-again c =
     let l = at-loop c.before.before.before in
-    (omega arith, λ q h. tried-turn _ _ q _ (l.loop.inv.1 q h) _ (entry_is c.before) c.meet2.ensures)
+    (omega arith, λ q h. tried-turn _ _ q _ (l.loop-i.invariant.1 q h) _ (entry_is c.before) c.meet-labelling-in-loop-i.ensures)
 
-returns : tie.Need-returns invariant-loop decreases-loop
+returns : tie.Need-returns invariant-loop-i decreases-loop-i
 unfolding map_of
 returns c =
     let l = c.before in
     let s = from l in
-    let all : l.loop.i ≡ s.args.n = omega (arith, l.loop.invariant.0, c.loop-test.false) in
+    let all : l.loop-i.i ≡ s.args.n = omega (arith, l.loop-i.invariant.0, c.loop-i-test.false) in
     record { holds = holds_same (held l) (serve_tried _ _ s.args.d ∙ ap (tried _ _ s.args.d) (sym all)) }
 
-pub serve-spec : {M : Type 1} → statement M
-serve-spec =
+pub serve_spec : {M : Type 1} → statement M
+serve_spec =
     tie.close
     (tie.spec
-    invariant-loop
-    decreases-loop
+    invariant-loop-i
+    decreases-loop-i
     (λ c. omega (arith, inside c.before.before.before))
     (λ c. omega (arith, inside c.before.before.before))
-    (λ c. omega (arith, inside c.before.before.before))
+    (λ c. omega (arith, inside c.before.before.before.before))
     (λ c κs. search rules)
     meet-requires
     (λ c. omega (arith, inside (start c.before)))
     mul-row
     (λ c. (omega arith, λ q h. h))
-    (λ c. let l = at-loop c in omega (arith, row_fits (from l) l.loop.i (omega arith)))
-    (λ c. let l = at-loop c in omega (arith, row_fits (from l) l.loop.i (omega arith)))
-    (λ c. let l = at-loop c.before in in-the-row (from l) l.loop.i (omega arith))
+    (λ c. let l = at-loop c in omega (arith, row_fits (from l) l.loop-i.i (omega arith)))
+    (λ c. let l = at-loop c in omega (arith, row_fits (from l) l.loop-i.i (omega arith)))
+    (λ c. let l = at-loop c.before in in-the-row (from l) l.loop-i.i (omega arith))
     (λ c κs. search rules)
     meet-requires-2
     (λ c. omega arith)

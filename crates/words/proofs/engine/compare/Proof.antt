@@ -29,20 +29,20 @@ module _ (word : List ℕ) (p x : ℕ) (firm : Bool) (y : ℕ) (held : y ≡ get
   unfolding side_after is_less
   weighed-same h k = record { is_side_after = rw (← held) (simp (le-ltb x y h, le-ltb y x k)); written = refl }
 
-returns : tie.Need-returns
-returns c = let read = c.before.before in weighed-firm _ _ _ _ _ read.wide.ensures c.before.if1.true c.if2.true
+returns : tie.Need-returns-then-firm
+returns c = let read = c.before.before in weighed-firm _ _ _ _ _ read.wide-held.ensures c.before.if-number-held.true c.if-firm.true
 
-returns-2 : tie.Need-returns-2
-returns-2 c = let read = c.before.before in weighed-less _ _ _ _ _ read.wide.ensures c.before.if1.true c.if2.false
+returns-2 : tie.Need-returns-then-number-held
+returns-2 c = let read = c.before.before in weighed-less _ _ _ _ _ read.wide-held.ensures c.before.if-number-held.true c.if-firm.false
 
-returns-3 : tie.Need-returns-3
-returns-3 c = let read = c.before.before in weighed-greater _ _ _ _ _ read.wide.ensures c.if3.true
+returns-3 : tie.Need-returns-then-held-number
+returns-3 c = let read = c.before.before in weighed-greater _ _ _ _ _ read.wide-held.ensures c.if-held-number.true
 
-returns-4 : tie.Need-returns-4
-returns-4 c = let read = c.before.before in weighed-same _ _ _ _ _ read.wide.ensures c.before.if1.false c.if3.false
+returns-4 : tie.Need-returns
+returns-4 c = let read = c.before.before in weighed-same _ _ _ _ _ read.wide-held.ensures c.before.if-number-held.false c.if-held-number.false
 
-pub compare-spec : {M : Type 1} → statement M
-compare-spec =
+pub compare_spec : {M : Type 1} → statement M
+compare_spec =
     tie.close
     (tie.spec
     (λ c. search rules)

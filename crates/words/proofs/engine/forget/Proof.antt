@@ -13,56 +13,56 @@ use Rattle.words.proofs.Forgetting.{Forgetting, forgetting_start, forgetting_tur
 use Rattle.words.proofs.engine.forget.Statement.{statement}
 use Rattle.words.proofs.engine.forget.Tie as tie
 
-abbrev invariant-loop : tie.invariant-loop
-invariant-loop labels₀ queue given k₀ labels k = Forgetting labels (take given queue) given k
+abbrev invariant-loop-k : tie.invariant-loop-k
+invariant-loop-k labels₀ queue given k₀ labels k = Forgetting labels (take given queue) given k
 
-abbrev decreases-loop : tie.decreases-loop
-decreases-loop labels₀ queue given k₀ labels k = given - k
+abbrev decreases-loop-k : tie.decreases-loop-k
+decreases-loop-k labels₀ queue given k₀ labels k = given - k
 
 -- in a turn the next dart's place in the queue is in the array
-turn : (c : tie.In-loop invariant-loop decreases-loop) → c.before.loop.k < 1020
+turn : (c : tie.In-loop-k invariant-loop-k decreases-loop-k) → c.before.loop-k.k < 1020
 turn c = omega (arith, c.before.before.requires.holds.few)
 
 -- what is read there is the next dart
-next : (c : tie.After-wide invariant-loop decreases-loop) →
+next : (c : tie.After-wide invariant-loop-k decreases-loop-k) →
     let at-loop = c.before.before.before in
     let a = at-loop.before.args in
-    c.wide.result ≡ nth (take a.given a.queue.now) (suc at-loop.loop.k)
+    c.wide.result ≡ nth (take a.given a.queue.now) (suc at-loop.loop-k.k)
 next c =
     let at-loop = c.before.before.before in
     let a = at-loop.before.args in
     c.wide.ensures
-    ∙ sym (get_or-take a.given a.queue.now at-loop.loop.k 0 c.before.before.loop-test.true)
-    ∙ sym (nth-suc (take a.given a.queue.now) at-loop.loop.k)
+    ∙ sym (get_or-take a.given a.queue.now at-loop.loop-k.k 0 c.before.before.loop-k-test.true)
+    ∙ sym (nth-suc (take a.given a.queue.now) at-loop.loop-k.k)
 
 -- it has a place among the labels
-inside : (c : tie.After-wide invariant-loop decreases-loop) → (1 ≤ c.wide.result) × (c.wide.result ≤ 1020)
+inside : (c : tie.After-wide invariant-loop-k decreases-loop-k) → (1 ≤ c.wide.result) × (c.wide.result ≤ 1020)
 inside c =
     let at-loop = c.before.before.before in
-    rw (next c) (at-loop.before.requires.inside (suc at-loop.loop.k) (omega arith) c.before.before.loop-test.true)
+    rw (next c) (at-loop.before.requires.inside (suc at-loop.loop-k.k) (omega arith) c.before.before.loop-k-test.true)
 
-loop-again : tie.Need-loop-preserved invariant-loop decreases-loop
+loop-again : tie.Need-loop-k-preserved invariant-loop-k decreases-loop-k
 loop-again c =
     let at_test = c.before.before in
-    forgetting_turn at_test.before.loop.invariant c.wide.result (next c) (inside c).0 (inside c).1 at_test.loop-test.true
+    forgetting_turn at_test.before.loop-k.invariant c.wide.result (next c.before) (inside c.before).0 (inside c.before).1 at_test.loop-k-test.true
 
-returns : tie.Need-returns invariant-loop decreases-loop
-returns c = forgetting_done c.before.loop.invariant (holds_length c.before.before.requires.holds) c.loop-test.false
+returns : tie.Need-returns invariant-loop-k decreases-loop-k
+returns c = forgetting_done c.before.loop-k.invariant (holds_length c.before.before.requires.holds) c.loop-k-test.false
 
-pub forget-spec : {M : Type 1} → statement M
-forget-spec =
+pub forget_spec : {M : Type 1} → statement M
+forget_spec =
     tie.close
     (tie.spec
-    invariant-loop
-    decreases-loop
+    invariant-loop-k
+    decreases-loop-k
     (λ c. forgetting_start c.requires.holds)
     (λ c. omega (arith, turn c))
-    (λ c. turn c)
+    (λ c. turn c.before)
     (λ c κs. search rules)
     (λ c. (inside c).0)
     (λ c. omega (arith, (inside c).0, (inside c).1))
-    (λ c. omega (arith, (inside c).0, (inside c).1))
-    (λ c. omega (arith, turn c.before.before))
+    (λ c. omega (arith, (inside c.before).0, (inside c.before).1))
+    (λ c. omega (arith, turn c.before.before.before.before))
     (λ c. omega arith)
     loop-again
     returns)

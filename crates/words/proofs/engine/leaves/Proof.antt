@@ -4,17 +4,17 @@ use Rattle.words.specs.Inside.{leaves_at}
 use Rattle.words.proofs.engine.leaves.Statement.{statement}
 use Rattle.words.proofs.engine.leaves.Tie as tie
 
-returns : tie.Need-returns
+returns : tie.Need-returns-in-Less
 unfolding leaves_at
-returns c = rw c.enum_told.given.1
+returns c = rw c.in-Less.is
 
-returns-2 : tie.Need-returns-2
+returns-2 : tie.Need-returns-in-Same
 unfolding leaves_at
-returns-2 c = rw c.enum-told2.given.1
+returns-2 c = rw c.in-Same.is
 
-returns-3 : tie.Need-returns-3
+returns-3 : tie.Need-returns-in-Greater
 unfolding leaves_at
-returns-3 c = rw c.enum-told3.given.1
+returns-3 c = rw c.in-Greater.is
 
-pub leaves-spec : {M : Type 1} → statement M
-leaves-spec = tie.close (tie.spec (λ c. search rules) (λ c. search rules) (λ c. search rules) returns returns-2 returns-3)
+pub leaves_spec : {M : Type 1} → statement M
+leaves_spec = tie.close (tie.spec (λ c. search rules) (λ c. search rules) (λ c. search rules) returns returns-2 returns-3)

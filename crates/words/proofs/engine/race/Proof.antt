@@ -26,12 +26,12 @@ use Rattle.words.proofs.Racing.{length_front, turn_of, met_few, Serving, Rowing,
 use Rattle.words.proofs.engine.race.Statement.{statement}
 use Rattle.words.proofs.engine.race.Tie as tie
 
-abbrev invariant-loop : tie.invariant-loop
-invariant-loop n m table back labels₀ queue₀ word₀ d rows firm labelling₀ side₀ p₀ k served row i₀ labels queue word labelling side p i =
+abbrev invariant-loop-i : tie.invariant-loop-i
+invariant-loop-i n m table back labels₀ queue₀ word₀ d rows firm labelling₀ side₀ p₀ k served row i₀ labels queue word labelling side p i =
     Rowing (map_of (lent n m table)) d rows k firm word₀ labels queue word labelling.given side₀ p₀ side p i
 
-abbrev decreases-loop : tie.decreases-loop
-decreases-loop n m table back labels₀ queue₀ word₀ d rows firm labelling₀ side₀ p₀ k served row i₀ labels queue word labelling side p i = n - i
+abbrev decreases-loop-i : tie.decreases-loop-i
+decreases-loop-i n m table back labels₀ queue₀ word₀ d rows firm labelling₀ side₀ p₀ k served row i₀ labels queue word labelling side p i = n - i
 
 abbrev invariant-labels : tie.invariant-labels
 invariant-labels n m table back labels₀ queue₀ word₀ d rows firm labelling₀ side₀ p₀ k₀ labels queue word labelling side p k =
@@ -56,33 +56,33 @@ judged-all {M} {d} {rows} taken dart most {k = k} s past =
 
 -- the places of this proof
 abbrev Start : Type 0
-Start = tie.Start invariant-loop decreases-loop invariant-labels decreases-labels
+Start = tie.Start invariant-loop-i decreases-loop-i invariant-labels decreases-labels
 
 abbrev AtLabels : Type 0
-AtLabels = tie.At-labels invariant-loop decreases-loop invariant-labels decreases-labels
+AtLabels = tie.At-labels invariant-loop-i decreases-loop-i invariant-labels decreases-labels
 
 abbrev Wide : Type 0
-Wide = tie.After-wide invariant-loop decreases-loop invariant-labels decreases-labels
+Wide = tie.After-wide-served invariant-loop-i decreases-loop-i invariant-labels decreases-labels
 
 abbrev InLoop : Type 0
-InLoop = tie.In-loop invariant-loop decreases-loop invariant-labels decreases-labels
+InLoop = tie.In-loop-i invariant-loop-i decreases-loop-i invariant-labels decreases-labels
 
 abbrev start : AtLabels → Start
-start c = c.before.before
+start c = c.before.before.before.before
 
-abbrev in-labels : Wide → tie.In-labels invariant-loop decreases-loop invariant-labels decreases-labels
-in-labels c = c.before.before
+abbrev in-labels : Wide → tie.In-labels invariant-loop-i decreases-loop-i invariant-labels decreases-labels
+in-labels c = c.before.before.before
 
-abbrev read : tie.After-wide2 invariant-loop decreases-loop invariant-labels decreases-labels → Wide
-read c = c.before.before.before.before
+abbrev read : tie.After-wide invariant-loop-i decreases-loop-i invariant-labels decreases-labels → Wide
+read c = c.before.before.before.before.before
 
 abbrev wide_of : InLoop → Wide
 wide_of c = read c.before.before.before
 
-abbrev in-loop : tie.After-wide3 invariant-loop decreases-loop invariant-labels decreases-labels → InLoop
+abbrev in-loop : tie.After-wide-in-loop-i invariant-loop-i decreases-loop-i invariant-labels decreases-labels → InLoop
 in-loop c = c.before.before.before.before
 
-abbrev met : tie.After-leaves invariant-loop decreases-loop invariant-labels decreases-labels → tie.After-meet2 invariant-loop decreases-loop invariant-labels decreases-labels
+abbrev met : tie.After-leaves invariant-loop-i decreases-loop-i invariant-labels decreases-labels → tie.After-meet-labelling-in-loop-i invariant-loop-i decreases-loop-i invariant-labels decreases-labels
 met c = c.before.before.before
 
 abbrev map_here : Start → Map
@@ -96,7 +96,7 @@ most : (s : Start) → s.args.rows ≤ (map_here s).darts
 unfolding map_of
 most s = s.requires.some_rows
 
-in_map : (c : tie.In-labels invariant-loop decreases-loop invariant-labels decreases-labels) → c.before.labels.k < (map_here (start c.before)).darts
+in_map : (c : tie.In-labels invariant-loop-i decreases-loop-i invariant-labels decreases-labels) → c.before.labels.k < (map_here (start c.before)).darts
 unfolding map_of
 in_map c = omega (arith, most (start c.before), c.labels-test.true)
 
@@ -105,7 +105,7 @@ inside : (s : Start) → (1 ≤ s.args.d) × (s.args.d ≤ 1020)
 unfolding map_of
 inside s = (s.requires.dart.0, omega (arith, s.requires.dart.1, few s))
 
-labels-holds : tie.Need-labels-init invariant-loop decreases-loop invariant-labels decreases-labels
+labels-holds : tie.Need-labels-init invariant-loop-i decreases-loop-i invariant-labels decreases-labels
 labels-holds c =
     let s = c.before in
     rw s.requires.blank (serving_start s.requires.usable.taken _ s.requires.dart s.args.rows s.args.firm s.args.queue.now _ s.requires.long_queue)
@@ -116,165 +116,165 @@ unfolding map_of
 fits s = omega (arith, length_front s.requires.usable.taken _ s.requires.dart s.args.rows (most s), mul-le-mul_right s.args.n (most s), mul_comm s.args.m s.args.n, s.requires.usable.shaped.bounds.table_most, s.requires.long_word)
 
 -- a dart is served only where there are as many
-turn : (c : tie.In-labels invariant-loop decreases-loop invariant-labels decreases-labels) → c.before.labels.k < 1020
+turn : (c : tie.In-labels invariant-loop-i decreases-loop-i invariant-labels decreases-labels) → c.before.labels.k < 1020
 turn c = omega (arith, in_map c, few (start c.before))
 
 -- so a turn is one dart more
-turn-of : (c : tie.In-labels invariant-loop decreases-loop invariant-labels decreases-labels) →
+turn-of : (c : tie.In-labels invariant-loop-i decreases-loop-i invariant-labels decreases-labels) →
     let l = c.before in
     let a = (start l).args in
     let v = l.labels in
     DartTurn (map_here (start l)) a.d a.rows a.firm a.word.now v.labels v.queue v.word v.labelling.given v.side v.p v.k
 turn-of c =
     let s = start c.before in
-    record { taken = s.pre.usable.taken; dart = s.pre.dart; most = most s; fits = fits s; so_far = c.before.labels.invariant; turn = c.labels-test.true }
+    record { taken = s.requires.usable.taken; dart = s.requires.dart; most = most s; fits = fits s; so_far = c.before.labels.invariant; turn = c.labels-test.true }
 
 -- what is read from the queue is the dart whose turn it is
 served-is : (c : Wide) →
     let l = (in-labels c).before in
-    c.wide.result ≡ turn_of (map_here (start l)) (start l).args.d l.labels.k
-served-is c = c.wide.ensures ∙ turn_read (turn-of (in-labels c))
+    c.wide-served.result ≡ turn_of (map_here (start l)) (start l).args.d l.labels.k
+served-is c = c.wide-served.ensures ∙ turn_read (turn-of (in-labels c))
 
-served-dart : (c : Wide) → IsDart (map_here (start (in-labels c).before)) c.wide.result
+served-dart : (c : Wide) → IsDart (map_here (start (in-labels c).before)) c.wide-served.result
 served-dart c = let dart = turn_is_dart (turn-of (in-labels c)) in omega (arith, served-is c)
 
-served-few : (c : Wide) → (1 ≤ c.wide.result) × (c.wide.result ≤ 1020)
+served-few : (c : Wide) → (1 ≤ c.wide-served.result) × (c.wide-served.result ≤ 1020)
 unfolding map_of
 served-few c = ((served-dart c).0, omega (arith, (served-dart c).1, few (start (in-labels c).before)))
 
 -- what is read from the array of β0 is β0 of that dart
-before-is : (c : tie.After-wide2 invariant-loop decreases-loop invariant-labels decreases-labels) →
+before-is : (c : tie.After-wide invariant-loop-i decreases-loop-i invariant-labels decreases-labels) →
     let l = (in-labels (read c)).before in
-    c.wide2.result ≡ sew (map_here (start l)) 0 (turn_of (map_here (start l)) (start l).args.d l.labels.k)
+    c.wide.result ≡ sew (map_here (start l)) 0 (turn_of (map_here (start l)) (start l).args.d l.labels.k)
 unfolding map_of
 before-is c =
     let w = read c in
     let s = start (in-labels w).before in
-    c.wide2.ensures
-    ∙ ap (λ (l : List ℕ). get_or l (w.wide.result - 1) 0) s.pre.usable.backs
-    ∙ backs_sew _ w.wide.result (served-dart w) (served-few w).1
+    c.wide.ensures
+    ∙ ap (λ (l : List ℕ). get_or l (w.wide-served.result - 1) 0) s.requires.usable.backs
+    ∙ backs_sew _ w.wide-served.result (served-dart w) (served-few w).1
     ∙ ap (sew _ 0) (served-is w)
 
 -- the dart's row lies in the table
 in-the-row : (c : Wide) (i : ℕ) →
     let a = (start (in-labels c).before).args in
-    i < a.n → (c.wide.result - 1) * a.n + i < length a.table.now
-in-the-row c i below = in_row (start (in-labels c).before).requires.usable.shaped c.wide.result i (served-dart c) below
+    i < a.n → (c.wide-served.result - 1) * a.n + i < length a.table.now
+in-the-row c i below = in_row (start (in-labels c).before).requires.usable.shaped c.wide-served.result i (served-dart c) below
 
 row_fits : (c : Wide) (i : ℕ) →
     let a = (start (in-labels c).before).args in
-    i < a.n → (c.wide.result - 1) * a.n + i < 1020
+    i < a.n → (c.wide-served.result - 1) * a.n + i < 1020
 row_fits c i below = let shaped = (start (in-labels c).before).requires.usable.shaped in omega (arith, in-the-row c i below, shaped.long, shaped.bounds.table_most)
 
-mul-row : tie.Need-overflow-mul-row invariant-loop decreases-loop invariant-labels decreases-labels
+mul-row : tie.Need-overflow_mul-row invariant-loop-i decreases-loop-i invariant-labels decreases-labels
 mul-row c = let w = read c.before in omega (arith, row_fits w 0 (start (in-labels w).before).requires.usable.shaped.bounds.dim_least)
 
-loop-holds : tie.Need-loop-init invariant-loop decreases-loop invariant-labels decreases-labels
-loop-holds c = rowing_start (turn-of (in-labels (read c.before))) (before-is c.before) c.meet.ensures
+loop-holds : tie.Need-loop-i-init invariant-loop-i decreases-loop-i invariant-labels decreases-labels
+loop-holds c = rowing_start (turn-of (in-labels (read c.before))) (before-is c.before) c.meet-labelling.ensures
 
 -- and a turn of the row is one number more
 number_of : (t : InLoop) →
     let l = (in-labels (wide_of t)).before in
     let a = (start l).args in
     let v = l.labels in
-    let u = t.before.loop in
+    let u = t.before.loop-i in
     NumberTurn (map_here (start l)) a.d a.rows a.firm a.word.now v.labels v.queue v.word v.labelling.given v.side v.p v.k u.labels u.queue u.word u.labelling.given u.side u.p u.i
 unfolding map_of
-number_of t = record { dart_turn = turn-of (in-labels (wide_of t)); so_far = t.before.loop.inv; turn = t.loop-test.taken }
+number_of t = record { dart_turn = turn-of (in-labels (wide_of t)); so_far = t.before.loop-i.invariant; turn = t.loop-i-test.true }
 
 -- what is read from the table is βi of the dart whose turn it is
-entry_is : (c : tie.After-wide3 invariant-loop decreases-loop invariant-labels decreases-labels) →
+entry_is : (c : tie.After-wide-in-loop-i invariant-loop-i decreases-loop-i invariant-labels decreases-labels) →
     let t = in-loop c in
     let l = (in-labels (wide_of t)).before in
-    c.wide3.result ≡ sew (map_here (start l)) (suc t.before.loop.i) (turn_of (map_here (start l)) (start l).args.d l.labels.k)
+    c.wide-in-loop-i.result ≡ sew (map_here (start l)) (suc t.before.loop-i.i) (turn_of (map_here (start l)) (start l).args.d l.labels.k)
 unfolding map_of
 entry_is c =
     let t = in-loop c in
     let w = wide_of t in
-    c.wide3.ensures
-    ∙ row_sew (start (in-labels w).before).requires.usable.shaped w.wide.result t.before.loop.i (served-dart w) t.loop-test.taken
-    ∙ ap (sew _ (suc t.before.loop.i)) (served-is w)
+    c.wide-in-loop-i.ensures
+    ∙ row_sew (start (in-labels w).before).requires.usable.shaped w.wide-served.result t.before.loop-i.i (served-dart w) t.loop-i-test.true
+    ∙ ap (sew _ (suc t.before.loop-i.i)) (served-is w)
 
 -- in a turn the number's place is in the word
-place-fits : (t : InLoop) → t.before.loop.p < 1020
+place-fits : (t : InLoop) → t.before.loop-i.p < 1020
 place-fits t = omega (arith, row_place (number_of t), (start (in-labels (wide_of t)).before).requires.long_word)
 
-weigh-requires : tie.Need-weigh-requires invariant-loop decreases-loop invariant-labels decreases-labels
+weigh-requires : tie.Need-weigh-side-requires invariant-loop-i decreases-loop-i invariant-labels decreases-labels
 weigh-requires c κs =
     let m = c.before in
     let t = in-loop m.before in
-    record { place = place-fits t; fits = met_few m.meet2.ensures; on = row_on (number_of t) }
+    record { place = place-fits t; fits = met_few m.meet-labelling-in-loop-i.ensures; on = row_on (number_of t) }
 
-loop-again : tie.Need-loop-preserved invariant-loop decreases-loop invariant-labels decreases-labels
+loop-again : tie.Need-loop-i-preserved invariant-loop-i decreases-loop-i invariant-labels decreases-labels
 loop-again c =
     let judged = c.before in
     let m = met judged in
-    rowing_turn (number_of (in-loop m.before)) (entry_is m.before) m.meet2.ensures judged.before.weigh.ensures (sym judged.leaves.ensures ∙ c.if1.false)
+    rowing_turn (number_of (in-loop m.before)) (entry_is m.before) m.meet-labelling-in-loop-i.ensures judged.before.weigh-side.ensures (sym judged.leaves.ensures ∙ c.if-leaves.false)
 
-labels-again : tie.Need-labels-preserved invariant-loop decreases-loop invariant-labels decreases-labels
+labels-again : tie.Need-labels-preserved invariant-loop-i decreases-loop-i invariant-labels decreases-labels
 unfolding map_of
-labels-again c = rowing_end (turn-of (in-labels (read c.before.before.before))) c.before.loop.invariant c.loop-test.false
+labels-again c = rowing_end (turn-of (in-labels (read c.before.before.before))) c.before.loop-i.invariant c.loop-i-test.false
 
-returns : tie.Need-returns invariant-loop decreases-loop invariant-labels decreases-labels
+returns : tie.Need-returns-after-labels invariant-loop-i decreases-loop-i invariant-labels decreases-labels
 unfolding map_of
 returns c =
     let s = start c.before in
     let inv = c.before.labels.invariant in
-    let taken = s.pre.usable.taken in
+    let taken = s.requires.usable.taken in
     let to_darts = taken.open_map.to_darts in
-    let all = judged-all taken s.pre.dart (most s) inv c.labels-test.false in
+    let all = judged-all taken s.requires.dart (most s) inv c.labels-test.false in
     let k = c.before.labels.k in
     let last : k ≡ s.args.rows = omega (arith, inv.high, c.labels-test.false) in
     record {
-      came = ended-outcome taken s.pre.dart (most s) (standing_end (fits s) (rw all at inv.stands));
-      good = rw inv.holds.so_far (served_queue _ to_darts _ s.pre.dart k);
+      came = ended-outcome taken s.requires.dart (most s) (standing_end (fits s) (rw all at inv.stands));
+      good = rw inv.holds.so_far (served_queue _ to_darts _ s.requires.dart k);
       holds = holds_own inv.holds;
       whole = λ on all-rows. inv.holds.so_far ∙ ap (served _ s.args.d) (last ∙ all-rows) ∙ sym (labelling_served _ s.args.d);
     }
 
-returns-2 : tie.Need-returns-2 invariant-loop decreases-loop invariant-labels decreases-labels
+returns-2 : tie.Need-returns-then-leaves invariant-loop-i decreases-loop-i invariant-labels decreases-labels
 returns-2 c =
     let judged = c.before in
     let m = met judged in
     let t = in-loop m.before in
     let s = start (in-labels (wide_of t)).before in
-    let gone = sym judged.leaves.ensures ∙ c.if1.true in
-    let held = row_holds (number_of t) (entry_is m.before) m.meet2.ensures in
+    let gone = sym judged.leaves.ensures ∙ c.if-leaves.true in
+    let held = row_holds (number_of t) (entry_is m.before) m.meet-labelling-in-loop-i.ensures in
     record {
-      came = ended-outcome s.pre.usable.taken s.pre.dart (most s) (rowing_left (number_of t) (entry_is m.before) m.meet2.ensures judged.before.weigh.ensures gone);
+      came = ended-outcome s.requires.usable.taken s.requires.dart (most s) (rowing_left (number_of t) (entry_is m.before) m.meet-labelling-in-loop-i.ensures judged.before.weigh-side.ensures gone);
       good = rw held.so_far (row_once (number_of t));
       holds = holds_own held;
       whole = λ on _. absurd (true_not_false gone on);
     }
 
-pub race-spec : {M : Type 1} → statement M
-race-spec =
+pub race_spec : {M : Type 1} → statement M
+race_spec =
     tie.close
     (tie.spec
-    invariant-loop
-    decreases-loop
+    invariant-loop-i
+    decreases-loop-i
     invariant-labels
     decreases-labels
     (λ c. (inside c.before).0)
     (λ c. omega (arith, inside c.before))
-    (λ c. omega (arith, inside c.before))
-    (λ c. omega (arith, inside c.before))
+    (λ c. omega (arith, inside c.before.before))
+    (λ c. omega (arith, inside c.before.before))
     (λ c. search rules)
     labels-holds
     (λ c. omega (arith, turn c))
-    (λ c. turn c)
+    (λ c. turn c.before)
     (λ c κs. search rules)
     (λ c. (served-few c.before.before).0)
     (λ c. omega (arith, served-few c.before.before))
-    (λ c. omega (arith, served-few c.before.before))
+    (λ c. omega (arith, served-few c.before.before.before))
     (λ c κs. search rules)
     (λ c κs. turn_meets (turn-of (in-labels (read c))) _ (before-is c))
     (λ c. (served-few (read c.before)).0)
     mul-row
     loop-holds
-    (λ c. let t = c.before.before in omega (arith, row_fits (wide_of t) t.before.loop.i t.loop-test.true))
-    (λ c. let t = c.before.before in omega (arith, row_fits (wide_of t) t.before.loop.i t.loop-test.true))
-    (λ c. let t = c.before.before.before in in-the-row (wide_of t) t.before.loop.i t.loop-test.true)
+    (λ c. let t = c.before.before in omega (arith, row_fits (wide_of t) t.before.loop-i.i t.loop-i-test.true))
+    (λ c. let t = c.before.before in omega (arith, row_fits (wide_of t) t.before.loop-i.i t.loop-i-test.true))
+    (λ c. let t = c.before.before.before in in-the-row (wide_of t) t.before.loop-i.i t.loop-i-test.true)
     (λ c κs. search rules)
     (λ c κs. row_meets (number_of (in-loop c)) _ (entry_is c))
     weigh-requires

@@ -17,14 +17,14 @@ taken-all : (queue q : List ℕ) (given m : ℕ) → take given queue ≡ q → 
 taken-all queue q given m is few all = let same : m ≡ given = sym all ∙ few in rw same is
 
 -- the places of this proof
-abbrev start : tie.After-race → tie.Start
+abbrev start : tie.After-race-course → tie.Start
 start c = c.before.before.before.before.before
 
 forget-requires : tie.Need-forget-requires
 unfolding map_of
 forget-requires c κs =
-    let raced = c.before.before.race.ensures in
-    let most = darts_most (start c.before.before).requires.usable.shaped.bounds in
+    let raced = c.before.race-course.ensures in
+    let most = darts_most (start c.before).requires.usable.shaped.bounds in
     record {
       holds = raced.holds;
       inside = λ k low high.
@@ -35,17 +35,17 @@ forget-requires c κs =
 returns : tie.Need-returns
 unfolding map_of
 returns c =
-    let ran = c.before.before.before in
+    let ran = c.before.before in
     let s = start ran in
-    let raced = ran.race.ensures in
+    let raced = ran.race-course.ensures in
     record {
       came = raced.came;
       blank = c.forget.ensures;
       long_queue = raced.holds.long_queue;
       whole = λ on all-rows.
           let is = raced.whole on all-rows in
-          taken-all _ _ _ _ is (ap length (sym is) ∙ holds_length raced.holds) (labelling_numbers s.pre.usable.taken _ s.pre.dart).long;
+          taken-all _ _ _ _ is (ap length (sym is) ∙ holds_length raced.holds) (labelling_numbers s.requires.usable.taken _ s.requires.dart).long;
     }
 
-pub try-start-spec : {M : Type 1} → statement M
-try-start-spec = tie.close (tie.spec (λ c κs. search rules) forget-requires returns)
+pub try_start_spec : {M : Type 1} → statement M
+try_start_spec = tie.close (tie.spec (λ c κs. search rules) forget-requires returns)

@@ -35,24 +35,24 @@ module _ {M : Map} {r d x : ℕ} (k : Ranking M r d) (turn : d < M.darts) (is : 
   ranking-kept above =
       record { low = omega arith; high = omega arith; start = k.start; dart = k.dart; reached = k.reached; none_less = none_below above (omega arith) }
 
-abbrev invariant-loop : tie.invariant-loop
-invariant-loop n m table back least₀ d₀ least d = Ranking (map_of (lent n m table)) least d
+abbrev invariant-loop-d : tie.invariant-loop-d
+invariant-loop-d n m table back least₀ d₀ least d = Ranking (map_of (lent n m table)) least d
 
-abbrev decreases-loop : tie.decreases-loop
-decreases-loop n m table back least₀ d₀ least d = m - d
+abbrev decreases-loop-d : tie.decreases-loop-d
+decreases-loop-d n m table back least₀ d₀ least d = m - d
 
 -- the places of this proof
-abbrev start : tie.At-loop invariant-loop decreases-loop → tie.Start invariant-loop decreases-loop
+abbrev start : tie.At-loop-d invariant-loop-d decreases-loop-d → tie.Start invariant-loop-d decreases-loop-d
 start c = c.before.before.before
 
-abbrev at-loop : tie.After-rank2 invariant-loop decreases-loop → tie.At-loop invariant-loop decreases-loop
+abbrev at-loop : tie.After-rank-next invariant-loop-d decreases-loop-d → tie.At-loop-d invariant-loop-d decreases-loop-d
 at-loop c = c.before.before
 
-rank-requires : tie.Need-rank-requires invariant-loop decreases-loop
+rank-requires : tie.Need-rank-least-requires invariant-loop-d decreases-loop-d
 unfolding map_of
 rank-requires c κs = let s = c.before in record { usable = s.requires; dart = (omega arith, s.requires.shaped.bounds.darts_least) }
 
-loop-holds : tie.Need-loop-init invariant-loop decreases-loop
+loop-holds : tie.Need-loop-d-init invariant-loop-d decreases-loop-d
 unfolding map_of
 loop-holds c =
     let s = c.before.before in
@@ -62,46 +62,46 @@ loop-holds c =
       high = one;
       start = 1;
       dart = (omega arith, one);
-      reached = sym c.rank.ensures;
-      none_less = λ e low high. let same : e ≡ 1 = omega arith in rw (same, c.rank.ensures) (omega arith);
+      reached = sym c.rank-least.ensures;
+      none_less = λ e low high. let same : e ≡ 1 = omega arith in rw (same, c.rank-least.ensures) (omega arith);
     }
 
-rank-requires-2 : tie.Need-rank-requires-2 invariant-loop decreases-loop
+rank-requires-2 : tie.Need-rank-next-requires invariant-loop-d decreases-loop-d
 unfolding map_of
-rank-requires-2 c κs = record { usable = (start c.before).pre; dart = (omega arith, omega (arith, c.loop-test.true)) }
+rank-requires-2 c κs = record { usable = (start c.before).requires; dart = (omega arith, omega (arith, c.loop-d-test.true)) }
 
-loop-again : tie.Need-loop-preserved invariant-loop decreases-loop
+loop-again : tie.Need-loop-d-preserved-then-next-least invariant-loop-d decreases-loop-d
 unfolding map_of
 loop-again c =
     let r = c.before in
-    ranking-new (at-loop r).loop.invariant r.before.loop-test.true r.rank2.ensures c.if1.true
+    ranking-new (at-loop r).loop-d.invariant r.before.loop-d-test.true r.rank-next.ensures c.if-next-least.true
 
-loop-again-2 : tie.Need-loop-preserved-2 invariant-loop decreases-loop
+loop-again-2 : tie.Need-loop-d-preserved invariant-loop-d decreases-loop-d
 unfolding map_of
 loop-again-2 c =
     let r = c.before in
-    ranking-kept (at-loop r).loop.invariant r.before.loop-test.true r.rank2.ensures c.if1.false
+    ranking-kept (at-loop r).loop-d.invariant r.before.loop-d-test.true r.rank-next.ensures c.if-next-least.false
 
-returns : tie.Need-returns invariant-loop decreases-loop
+returns : tie.Need-returns invariant-loop-d decreases-loop-d
 unfolding map_of
 returns c =
-    let k = c.before.loop.invariant in
+    let k = c.before.loop-d.invariant in
     record {
       start = k.start;
       dart = k.dart;
       reached = k.reached;
-      none_less = λ d dart. k.none_less d dart.0 (omega (arith, dart.1, c.loop-test.false));
+      none_less = λ d dart. k.none_less d dart.0 (omega (arith, dart.1, c.loop-d-test.false));
     }
 
-pub least-rank-spec : {M : Type 1} → statement M
-least-rank-spec =
+pub least_rank_spec : {M : Type 1} → statement M
+least_rank_spec =
     tie.close
     (tie.spec
-    invariant-loop
-    decreases-loop
+    invariant-loop-d
+    decreases-loop-d
     rank-requires
     loop-holds
-    (λ c. omega (arith, darts_most (start c.before).pre.shaped.bounds))
+    (λ c. omega (arith, darts_most (start c.before).requires.shaped.bounds))
     rank-requires-2
     (λ c. omega arith)
     loop-again

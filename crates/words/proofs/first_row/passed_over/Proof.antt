@@ -18,16 +18,16 @@ inside s = let p = s.requires in (p.dart.0, omega (arith, p.dart.1, darts_most p
 
 -- what is read is what is over it
 read : (c : tie.After-wide) → let s = c.before.before.before in nth s.args.up.now s.args.d ≡ c.wide.result
-read c = nth_at _ _ (inside c.before.before.before).0 ∙ sym c.wide.ensures
+read c = nth_at _ _ (inside c.before.before.before.before).0 ∙ sym c.wide.ensures
 
-pub passed-over-spec : {M : Type 1} → statement M
-passed-over-spec =
+pub passed_over_spec : {M : Type 1} → statement M
+passed_over_spec =
     tie.close
     (tie.spec
     (λ c. (inside c.before).0)
     (λ c. omega (arith, inside c.before))
-    (λ c. omega (arith, inside c.before))
+    (λ c. omega (arith, inside c.before.before))
     (λ c κs. search rules)
-    (λ c. over_passes _ _ _ _ (omega (arith, read c.before, c.if1.true)))
+    (λ c. over_passes _ _ _ _ (omega (arith, read c.before, c.if-wide-ne0.true)))
     (λ c κs. c.before.before.before.before.requires)
-    (λ c. ap (ltb _) c.rank.ensures ∙ rank_passes _ _ _ _ (omega (arith, read c.before.before, c.before.if1.false))))
+    (λ c. ap (ltb _) c.rank.ensures ∙ rank_passes _ _ _ _ (omega (arith, read c.before.before, c.before.if-wide-ne0.false))))

@@ -55,21 +55,21 @@ abbrev given : tie.Start → Given
 given s = lent s.args.n s.args.m s.args.table.now
 
 -- the places of this proof
-abbrev start : tie.After-first-label → tie.Start
-start c = c.before.before.before.before.before.before
+abbrev start : tie.After-first_label-first → tie.Start
+start c = c.before.before.before.before.before.before.before
 
 -- the first number of the word
-first : (c : tie.After-first-label) →
+first : (c : tie.After-first_label-first) →
     let s = start c in
     let M = map_of (given s) in
-    c.first-label.result ≡ first_label s.args.d (sew M 0 s.args.d) (sew M 1 s.args.d)
+    c.first_label-first.result ≡ first_label s.args.d (sew M 0 s.args.d) (sew M 1 s.args.d)
 first c =
     let s = start c in
-    c.first-label.ensures
-    ∙ ap₂ (first_label s.args.d) (c.before.before.before.wide.ensures ∙ back_read (given s) s.pre) (c.before.wide2.ensures ∙ next-read (given s) s.pre)
+    c.first_label-first.ensures
+    ∙ ap₂ (first_label s.args.d) (c.before.before.before.wide.ensures ∙ back_read (given s) s.requires) (c.before.wide-2.ensures ∙ next-read (given s) s.requires)
 
 -- twice the first number fits
-first_fits : (c : tie.After-first-label) → c.first-label.result ≤ 3
+first_fits : (c : tie.After-first_label-first) → c.first_label-first.result ≤ 3
 first_fits c = rw (first c) (first_few _ _ _)
 
 -- the dart has its place
@@ -80,49 +80,49 @@ row-start : (s : tie.Start) → (s.args.d - 1) * s.args.n < 1020
 row-start s = omega (arith, row-few (given s) s.requires 0 (some_dim (given s) s.requires))
 
 -- there is a β2
-second : (c : tie.Else1) → 1 < (start c.before).args.n
-second c = let s = start c.before in omega (arith, some_dim (given s) s.pre, c.if1.false)
+second : (c : tie.Else-n-eq1) → 1 < (start c.before).args.n
+second c = let s = start c.before in omega (arith, some_dim (given s) s.requires, c.if-n-eq1.false)
 
 -- what is read of it
-second-read : (c : tie.After-wide3) →
+second-read : (c : tie.After-wide-3) →
     let s = start c.before.before.before in
-    c.wide3.result ≡ sew (map_of (given s)) 2 s.args.d
+    c.wide-3.result ≡ sew (map_of (given s)) 2 s.args.d
 second-read c =
     let e = c.before.before in
     let s = start e.before in
-    c.wide3.ensures ∙ row_sew s.pre.usable.shaped s.args.d 1 s.pre.dart (second e)
+    c.wide-3.ensures ∙ row_sew s.requires.usable.shaped s.args.d 1 s.requires.dart (second e)
 
-returns : tie.Need-returns
+returns : tie.Need-returns-then-n-eq1
 unfolding map_of
 returns c =
     let s = start c.before in
-    rank-free _ _ _ (first c.before) (sew_high (map_of (given s)) 2 s.args.d (omega (arith, c.if1.true)))
+    rank-free _ _ _ (first c.before) (sew_high (map_of (given s)) 2 s.args.d (omega (arith, c.if-n-eq1.true)))
 
-returns-2 : tie.Need-returns-2
-returns-2 c = rank-free _ _ _ (first c.before.before.before.before) (sym (second-read c.before) ∙ c.if2.true)
+returns-2 : tie.Need-returns-then-wide-eq0
+returns-2 c = rank-free _ _ _ (first c.before.before.before.before) (sym (second-read c.before) ∙ c.if-wide-eq0.true)
 
-returns-3 : tie.Need-returns-3
-returns-3 c = rank-sewn _ _ _ (first c.before.before.before.before) (λ z. c.if2.false (second-read c.before ∙ z))
+returns-3 : tie.Need-returns
+returns-3 c = rank-sewn _ _ _ (first c.before.before.before.before) (λ z. c.if-wide-eq0.false (second-read c.before ∙ z))
 
-pub rank-spec : {M : Type 1} → statement M
-rank-spec =
+pub rank_spec : {M : Type 1} → statement M
+rank_spec =
     tie.close
     (tie.spec
     (λ c. (placed c.before).0)
     (λ c. omega (arith, row-start c.before))
     (λ c. (placed c.before).0)
     (λ c. omega (arith, placed c.before))
-    (λ c. omega (arith, placed c.before))
+    (λ c. omega (arith, placed c.before.before))
     (λ c κs. search rules)
-    (λ c. omega (arith, row-start c.before.before.before))
-    (λ c. let s = c.before.before.before.before in omega (arith, row_inside (given s) s.requires 0 (some_dim (given s) s.requires)))
+    (λ c. omega (arith, row-start c.before.before.before.before))
+    (λ c. let s = c.before.before.before.before.before in omega (arith, row_inside (given s) s.requires 0 (some_dim (given s) s.requires)))
     (λ c κs. search rules)
     (λ c κs. search rules)
     (λ c. omega (arith, first_fits c.before))
     returns
-    (λ c. let s = start c.before in omega (arith, row-few (given s) s.pre 1 (second c)))
-    (λ c. let s = start c.before in omega (arith, row-few (given s) s.pre 1 (second c)))
-    (λ c. let s = start c.before.before in row_inside (given s) s.pre 1 (second c.before))
+    (λ c. let s = start c.before in omega (arith, row-few (given s) s.requires 1 (second c)))
+    (λ c. let s = start c.before in omega (arith, row-few (given s) s.requires 1 (second c)))
+    (λ c. let s = start c.before.before in row_inside (given s) s.requires 1 (second c.before))
     (λ c κs. search rules)
     (λ c. omega (arith, first_fits c.before.before.before.before))
     returns-2

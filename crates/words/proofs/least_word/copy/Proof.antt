@@ -5,36 +5,36 @@ use Rattle.words.proofs.Sign.{Shown, shown_start, shown_turn, shown_done}
 use Rattle.words.proofs.least_word.copy.Statement.{statement}
 use Rattle.words.proofs.least_word.copy.Tie as tie
 
-abbrev invariant-loop : tie.invariant-loop
-invariant-loop word output₀ size i₀ output i = Shown word output₀ output size i
+abbrev invariant-loop-i : tie.invariant-loop-i
+invariant-loop-i word output₀ size i₀ output i = Shown word output₀ output size i
 
-abbrev decreases-loop : tie.decreases-loop
-decreases-loop word output₀ size i₀ output i = size - i
+abbrev decreases-loop-i : tie.decreases-loop-i
+decreases-loop-i word output₀ size i₀ output i = size - i
 
-loop-holds : tie.Need-loop-init invariant-loop decreases-loop
+loop-holds : tie.Need-loop-i-init invariant-loop-i decreases-loop-i
 loop-holds c = shown_start _ _ _
 
-slice-write-output : tie.Need-slice-write-output invariant-loop decreases-loop
-slice-write-output c = omega (arith, c.before.before.loop.invariant.long)
+slice-write-output : tie.Need-bounds-output-i invariant-loop-i decreases-loop-i
+slice-write-output c = omega (arith, c.before.before.loop-i.invariant.long)
 
-loop-again : tie.Need-loop-preserved invariant-loop decreases-loop
+loop-again : tie.Need-loop-i-preserved invariant-loop-i decreases-loop-i
 loop-again c =
     let at-loop = c.before.before in
     let pre = at-loop.before.requires in
-    shown_turn at-loop.loop.invariant (rw pre.long pre.few) pre.room c.before.loop-test.true
+    shown_turn at-loop.loop-i.invariant (rw pre.long pre.few) pre.room c.before.loop-i-test.true
 
-same_length : tie.Need-same-length invariant-loop decreases-loop
-same_length c = c.before.loop.invariant.long
+same_length : tie.Need-shape_of-output invariant-loop-i decreases-loop-i
+same_length c = c.before.loop-i.invariant.long
 
-returns : tie.Need-returns invariant-loop decreases-loop
-returns c = record { written = shown_done c.before.loop.invariant c.loop-test.false }
+returns : tie.Need-returns invariant-loop-i decreases-loop-i
+returns c = record { written = shown_done c.before.loop-i.invariant c.loop-i-test.false }
 
 pub copy_spec : {M : Type 1} → statement M
 copy_spec =
     tie.close
     (tie.spec
-    invariant-loop
-    decreases-loop
+    invariant-loop-i
+    decreases-loop-i
     loop-holds
     (λ c. omega arith)
     (λ c. omega arith)

@@ -5,13 +5,13 @@ use Rattle.words.specs.Inside.{few_rows}
 use Rattle.words.proofs.least_word.few_rows.Statement.{statement}
 use Rattle.words.proofs.least_word.few_rows.Tie as tie
 
-returns : tie.Need-returns
+returns : tie.Need-returns-then-m-lt16
 unfolding few_rows
-returns c = sym (simp (lt-ltb _ 16 c.if1.true))
+returns c = sym (simp (lt-ltb _ 16 c.if-m-lt16.true))
 
-returns-2 : tie.Need-returns-2
+returns-2 : tie.Need-returns
 unfolding few_rows
-returns-2 c = sym (simp (le-ltb _ 16 c.if1.false))
+returns-2 c = sym (simp (le-ltb _ 16 c.if-m-lt16.false))
 
-pub few-rows-spec : {M : Type 1} → statement M
-few-rows-spec = tie.close (tie.spec returns returns-2)
+pub few_rows_spec : {M : Type 1} → statement M
+few_rows_spec = tie.close (tie.spec returns returns-2)

@@ -19,33 +19,33 @@ written_over {m = m} {queue = queue} p is =
     let front : length (take m queue) ≡ m = length-take-le m queue (omega (arith, p.few, p.long_queue)) in
     rw front is
 
-join-all-requires : tie.Need-join-all-requires
+join-all-requires : tie.Need-join_all-requires
 unfolding is_same
 join-all-requires c κs =
     let told = c.before.before in
-    told.before.before.requires.joins (rw told.enum-told2.given.1 refl)
+    told.before.before.requires.joins (rw told.in-Same.is refl)
 
 copy-requires : tie.Need-copy-requires
 copy-requires c κs =
-    let p = c.before.before.before.requires in
+    let p = c.before.before.requires in
     record { few = p.few; room = omega (arith, p.few, p.long_lead); long = p.long_queue }
 
-returns : tie.Need-returns
+returns : tie.Need-returns-in-Less
 unfolding started_at is_less is_same
 returns c =
     let e = c.before.before in
-    let told = e.enum_told.given.1 in
-    record { started = rw told; leads = rw told (written_over e.before.before.requires c.copy.ensures.written); trees = rw told }
+    let told = e.in-Less.is in
+    record { started = rw told; leads = rw told (written_over e.before.requires c.copy.ensures.written); trees = rw told }
 
-returns-2 : tie.Need-returns-2
+returns-2 : tie.Need-returns-in-Same
 unfolding started_at is_less is_same
 returns-2 c =
-    let told = c.before.before.before.enum-told2.given.1 in
-    record { started = rw told; leads = rw told; trees = c.join-all.ensures ∙ rw told }
+    let told = c.before.before.in-Same.is in
+    record { started = rw told; leads = rw told; trees = c.join_all.ensures ∙ rw told }
 
-returns-3 : tie.Need-returns-3
+returns-3 : tie.Need-returns-in-Greater
 unfolding started_at is_less is_same
-returns-3 c = let told = c.enum-told3.given.1 in record { started = rw told; leads = rw told; trees = rw told }
+returns-3 c = let told = c.in-Greater.is in record { started = rw told; leads = rw told; trees = rw told }
 
-pub settle-spec : {M : Type 1} → statement M
-settle-spec = tie.close (tie.spec (λ c. search rules) copy-requires (λ c. search rules) join-all-requires (λ c. search rules) returns returns-2 returns-3)
+pub settle_spec : {M : Type 1} → statement M
+settle_spec = tie.close (tie.spec (λ c. search rules) copy-requires (λ c. search rules) join-all-requires (λ c. search rules) returns returns-2 returns-3)

@@ -16,38 +16,38 @@ use Rattle.words.proofs.least_word.signature.Statement.{statement}
 use Rattle.words.proofs.least_word.signature.Tie as tie
 
 -- the places of this proof
-abbrev start : tie.After-judge → tie.Start
+abbrev start : tie.After-judge-judged → tie.Start
 start c = c.before.before.before.before.before
 
-abbrev judge-of : tie.After-enum-told → tie.After-judge
-judge-of c = c.before.before
+abbrev judge-of : tie.In_default → tie.After-judge-judged
+judge-of c = c.before
 
-abbrev ran : tie.After-copy → tie.After-run
-ran c = c.before.before.before.before
+abbrev ran : tie.After-copy → tie.After-run-signing
+ran c = c.before.before.before
 
-abbrev told : tie.After-run → tie.After-enum-told
+abbrev told : tie.After-run-signing → tie.In_default
 told c = c.before.before.before.before
 
-returns : tie.Need-returns
+returns : tie.Need-returns-in-Refused
 returns c =
-    let judged = c.before.before.before in
-    signed_refused _ (start judged).args.output.now _ _ (sym c.before.judged.given.1 ∙ judged.judge.ensures.answer.verdict)
+    let judged = c.before in
+    signed_refused _ (start judged).args.output.now _ _ (sym c.before.in-Refused.is ∙ judged.judge-judged.ensures.answer.verdict)
 
 -- the table and the output are accepted
-accepting : (c : tie.After-enum-told) →
+accepting : (c : tie.In_default) →
     let a = (start (judge-of c)).args in
     accepts (table_answer (output.Word (length a.output.now)) (lent a.n a.m a.table.now)) ≡ true
-accepting c = passed_accepts _ (sym c.enum_told.given.1 ∙ (judge-of c).judge.ensures.answer.verdict)
+accepting c = passed_accepts _ (sym c.in_default.is ∙ (judge-of c).judge-judged.ensures.answer.verdict)
 
-shaped : (c : tie.After-enum-told) →
+shaped : (c : tie.In_default) →
     let a = (start (judge-of c)).args in
     Shaped (lent a.n a.m a.table.now)
 shaped c = signing_shaped _ (start (judge-of c)).args.output.now (accepting c)
 
-run-requires : tie.Need-run-requires
+run-requires : tie.Need-run-signing-requires
 run-requires c κs =
     let t = c.before.before.before in
-    let judged = (judge-of t).judge.ensures in
+    let judged = (judge-of t).judge-judged.ensures in
     record {
       usable = judged_usable _ _ judged (accepting t);
       blank = judged.blank;
@@ -56,23 +56,23 @@ run-requires c κs =
 
 copy-requires : tie.Need-copy-requires
 copy-requires c κs =
-    let r = c.before.before.before in
+    let r = c.before.before in
     let t = told r in
     record {
       few = (shaped t).bounds.table_most;
       room = signing_room _ (start (judge-of t)).args.output.now (accepting t);
-      long = r.run.ensures.long;
+      long = r.run-signing.ensures.long;
     }
 
-returns-2 : tie.Need-returns-2
+returns-2 : tie.Need-returns
 returns-2 c =
     let copied = c.before.before in
     let r = ran copied in
     let t = told r in
-    signed_run _ (start (judge-of t)).args.output.now (accepting t) r.run.ensures copied.copy.ensures.written
+    signed_run _ (start (judge-of t)).args.output.now (accepting t) r.run-signing.ensures copied.copy.ensures.written
 
-pub signature-spec : {M : Type 1} → statement M
-signature-spec =
+pub signature_spec : {M : Type 1} → statement M
+signature_spec =
     tie.close
     (tie.spec
     (λ c κs. search rules)

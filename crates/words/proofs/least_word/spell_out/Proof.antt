@@ -54,7 +54,7 @@ spelt-already {g} {held = held} {s = s} {rows = rows} p all =
       order = λ below. absurd (omega arith);
     }
 
-try-start-requires : tie.Need-try-start-requires
+try-start-requires : tie.Need-try_start-requires
 try-start-requires c κs =
     let r = c.before.before.before.before.before.requires.ready in
     record {
@@ -66,13 +66,13 @@ try-start-requires c κs =
       long_word = r.long_word;
     }
 
-returns : tie.Need-returns
+returns : tie.Need-returns-then-rows-m
 returns c =
     let t = c.before.before.before.before in
-    spelt-out t.before.before.requires t.if1.true c.try-start.ensures
+    spelt-out t.before.before.requires t.if-rows-m.true c.try_start.ensures
 
-returns-2 : tie.Need-returns-2
-returns-2 c = spelt-already c.before.before.requires c.if1.false
+returns-2 : tie.Need-returns-else-rows-m
+returns-2 c = spelt-already c.before.before.requires c.if-rows-m.false
 
-pub spell-out-spec : {M : Type 1} → statement M
-spell-out-spec = tie.close (tie.spec try-start-requires returns returns-2)
+pub spell_out_spec : {M : Type 1} → statement M
+spell_out_spec = tie.close (tie.spec try-start-requires returns returns-2)

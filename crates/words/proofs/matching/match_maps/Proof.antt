@@ -81,28 +81,28 @@ images-ready {g} a {queue} s long_queue long-images room =
     }
 
 -- the places of this proof
-abbrev start : tie.After-judge → tie.Start
+abbrev start : tie.After-judge-first → tie.Start
 start c = c.before.before.before.before.before.before
 
-abbrev judged : tie.After-enum-told → tie.After-judge
-judged c = c.before.before
+abbrev judged : tie.In_default → tie.After-judge-first
+judged c = c.before
 
-abbrev told : tie.After-try-start → tie.After-enum-told
+abbrev told : tie.After-try_start → tie.In_default
 told c = c.before.before.before.before.before
 
-abbrev ran : tie.After-judge2 → tie.After-try-start
+abbrev ran : tie.After-judge-second → tie.After-try_start
 ran c = c.before.before.before
 
-abbrev judged2 : tie.After-enum-told2 → tie.After-judge2
-judged2 c = c.before.before
+abbrev judged2 : tie.In_default-second → tie.After-judge-second
+judged2 c = c.before
 
-abbrev told2 : tie.After-first-alike → tie.After-enum-told2
+abbrev told2 : tie.After-first_alike-image → tie.In_default-second
 told2 c = c.before.before.before.before.before.before.before
 
-abbrev sought : tie.After-show → tie.After-first-alike
+abbrev sought : tie.After-show → tie.After-first_alike-image
 sought c = c.before.before.before.before.before
 
-abbrev from : tie.After-judge2 → tie.Start
+abbrev from : tie.After-judge-second → tie.Start
 from c = start (judged (told (ran c)))
 
 abbrev first : tie.Start → Given
@@ -114,31 +114,31 @@ second s = lent s.args.n2 s.args.m2 s.args.table2.now
 abbrev room : tie.Start → ℕ
 room s = length s.args.output.now
 
-accepting : (c : tie.After-enum-told) →
+accepting : (c : tie.In_default) →
     let s = start (judged c) in
     accepts (table_answer (output.Images (room s)) (first s)) ≡ true
-accepting c = passed_accepts _ (sym c.enum_told.given.1 ∙ (judged c).judge.ensures.answer.verdict)
+accepting c = passed_accepts _ (sym c.in_default.is ∙ (judged c).judge-first.ensures.answer.verdict)
 
-unlent2 : (c : tie.After-enum-told2) → accepts (table_answer output.Nothing (second (from (judged2 c)))) ≡ true
-unlent2 c = passed_accepts _ (sym c.enum-told2.given.1 ∙ (judged2 c).judge2.ensures.answer.verdict)
+unlent2 : (c : tie.In_default-second) → accepts (table_answer output.Nothing (second (from (judged2 c)))) ≡ true
+unlent2 c = passed_accepts _ (sym c.in_default-second.is ∙ (judged2 c).judge-second.ensures.answer.verdict)
 
-accepting2 : (c : tie.After-enum-told2) → accepts (check_answer (second (from (judged2 c)))) ≡ true
+accepting2 : (c : tie.In_default-second) → accepts (check_answer (second (from (judged2 c)))) ≡ true
 unfolding check_answer
 accepting2 c = unlent2 c
 
-returns : tie.Need-returns
+returns : tie.Need-returns-in-Refused
 returns c =
-    let j = c.before.before.before in
+    let j = c.before in
     let s = start j in
-    let is = sym c.before.first.given.1 ∙ j.judge.ensures.answer.verdict in
+    let is = sym c.before.in-Refused.is ∙ j.judge-first.ensures.answer.verdict in
     let v = table_answer (output.Images (room s)) (first s) in
     let same = refused_is v _ _ is in
     matches_refused _ _ (refused_low v _ _ is) (match_first (first s) (second s) (room s) (refused-accepts v _ _ is) ∙ same)
 
-try-start-requires : tie.Need-try-start-requires
+try-start-requires : tie.Need-try_start-requires
 try-start-requires c κs =
     let t = c.before.before.before.before in
-    let answer = (judged t).judge.ensures in
+    let answer = (judged t).judge-first.ensures in
     let usable = judged_usable _ _ answer (accepting t) in
     record {
       usable = usable;
@@ -150,52 +150,52 @@ try-start-requires c κs =
     }
 
 -- a refusal of the second map has a number up to 9
-add-fits : tie.Need-overflow-add-t31
+add-fits : tie.Need-overflow_add-t31
 unfolding CheckNumbers check_answer refused
 add-fits c =
     let j = c.before.before.before in
     let v = check_answer (second (from j)) in
-    let is = sym c.before.second.given.1 ∙ j.judge2.ensures.answer.verdict in
+    let is = sym c.before.in-Refused-second.is ∙ j.judge-second.ensures.answer.verdict in
     let number = ap (λ (w : Verdict). w.number) (refused_is v _ _ is) in
     omega (arith, number, (check_numbers (second (from j))).0)
 
-returns-2 : tie.Need-returns-2
+returns-2 : tie.Need-returns-in-Refused-second
 unfolding check_answer refused
 returns-2 c =
-    let j = c.before.before.before in
+    let j = c.before in
     let s = from j in
     let v = check_answer (second s) in
-    let is = sym c.before.second.given.1 ∙ j.judge2.ensures.answer.verdict in
+    let is = sym c.before.in-Refused-second.is ∙ j.judge-second.ensures.answer.verdict in
     let same = refused_is v _ _ is in
     let answer = match_second (first s) (second s) (room s) (accepting (told (ran j))) (refused-accepts v _ _ is) in
     matches_refused _ _ (omega arith) (answer ∙ ap (λ (w : Verdict). refused (20 + w.number) w.place) same)
 
-returns-3 : tie.Need-returns-3
+returns-3 : tie.Need-returns-then-n-n2
 returns-3 c =
     let t = c.before in
     let s = from (judged2 t) in
-    matches_refused 10 0 (omega arith) (match_unlike (first s) (second s) (room s) (accepting (told (ran (judged2 t)))) (accepting2 t) (inl c.if1.true))
+    matches_refused 10 0 (omega arith) (match_unlike (first s) (second s) (room s) (accepting (told (ran (judged2 t)))) (accepting2 t) (inl c.if-n-n2.true))
 
-returns-4 : tie.Need-returns-4
+returns-4 : tie.Need-returns-then-m-m2
 returns-4 c =
     let t = c.before.before in
     let s = from (judged2 t) in
-    matches_refused 10 0 (omega arith) (match_unlike (first s) (second s) (room s) (accepting (told (ran (judged2 t)))) (accepting2 t) (inr c.if2.true))
+    matches_refused 10 0 (omega arith) (match_unlike (first s) (second s) (room s) (accepting (told (ran (judged2 t)))) (accepting2 t) (inr c.if-m-m2.true))
 
 -- both tables have passed
-cleared : (t : tie.After-enum-told2) → let s = from (judged2 t) in Cleared (first s) (second s) (room s)
+cleared : (t : tie.In_default-second) → let s = from (judged2 t) in Cleared (first s) (second s) (room s)
 cleared t = match_clear _ _ _ (table_whole _ _ (accepting (told (ran (judged2 t))))) (check_whole _ (accepting2 t))
 
 -- what the first run has left
-spelt-here : (t : tie.After-enum-told2) →
+spelt-here : (t : tie.In_default-second) →
     let r = ran (judged2 t) in
-    Spelt (first (from (judged2 t))) r.try-start.last.1.1.1.1.1.0 r.try-start.last.1.1.1.1.1.1.0
-spelt-here t = spelt (cleared t).first (ran (judged2 t)).try-start.ensures
+    Spelt (first (from (judged2 t))) r.try_start.last.1.1.1.1.1.0 r.try_start.last.1.1.1.1.1.1.0
+spelt-here t = spelt (cleared t).first (ran (judged2 t)).try_start.ensures
 
-first-alike-requires : tie.Need-first-alike-requires
+first-alike-requires : tie.Need-first_alike-image-requires
 first-alike-requires c κs =
     let t = c.before.before.before.before.before.before in
-    let answer = (judged2 t).judge2.ensures in
+    let answer = (judged2 t).judge-second.ensures in
     record {
       usable = judged_usable _ _ answer (unlent2 t);
       blank = answer.blank;
@@ -204,34 +204,34 @@ first-alike-requires c κs =
     }
 
 -- the start found is the image of dart 1
-image-is : (c : tie.After-first-alike) →
+image-is : (c : tie.After-first_alike-image) →
     let s = from (judged2 (told2 c)) in
-    c.first_alike.result ≡ image_of_first (map_of (first s)) (map_of (second s))
+    c.first_alike-image.result ≡ image_of_first (map_of (first s)) (map_of (second s))
 unfolding image_of_first map_of
 image-is c =
     let t = told2 c in
     let s = from (judged2 t) in
-    let n-same = c.before.before.before.before.before.before.if1.false in
-    let m-same = c.before.before.before.before.before.if2.false in
-    c.first_alike.ensures.found
+    let n-same = c.before.before.before.before.before.before.if-n-n2.false in
+    let m-same = c.before.before.before.before.before.if-m-m2.false in
+    c.first_alike-image.ensures.found
     ∙ ap (λ (w : List ℕ). least s.args.m2 (yields (map_of (second s)) w))
-    (ap (λ (k : ℕ). take k (ran (judged2 t)).try-start.new.1.1.1.1.1.1.0) (sym (ap₂ (λ (x y : ℕ). x * y) n-same m-same)) ∙ (spelt-here t).numbers)
+    (ap (λ (k : ℕ). take k (ran (judged2 t)).try_start.new.1.1.1.1.1.1.0) (sym (ap₂ (λ (x y : ℕ). x * y) n-same m-same)) ∙ (spelt-here t).numbers)
 
-returns-5 : tie.Need-returns-5
+returns-5 : tie.Need-returns-then-image-eq0
 returns-5 c =
     let f = c.before in
     let t = told2 f in
     let s = from (judged2 t) in
-    let n-same = f.before.before.before.before.before.before.if1.false in
-    let m-same = f.before.before.before.before.before.if2.false in
+    let n-same = f.before.before.before.before.before.before.if-n-n2.false in
+    let m-same = f.before.before.before.before.before.if-m-m2.false in
     matches_refused 10 0 (omega arith)
-    (match_none (first s) (second s) (room s) (accepting (told (ran (judged2 t)))) (accepting2 t) n-same m-same (sym (image-is f) ∙ c.if3.true))
+    (match_none (first s) (second s) (room s) (accepting (told (ran (judged2 t)))) (accepting2 t) n-same m-same (sym (image-is f) ∙ c.if-image-eq0.true))
 
 show-requires : tie.Need-show-requires
 show-requires c κs =
     let f = c.before.before.before.before in
     let t = told2 f in
-    images-ready (cleared t).first (spelt-here t) (ran (judged2 t)).try-start.ensures.long_queue f.first_alike.ensures.long_queue (cleared t).roomy
+    images-ready (cleared t).first (spelt-here t) (ran (judged2 t)).try_start.ensures.long_queue f.first_alike-image.ensures.long_queue (cleared t).roomy
 
 -- the images written are those of the matching shown
 images-are : (a b : Given) (images : List ℕ) {queue held : List ℕ} {r : ℕ} → Spelt a queue held → a.m ≡ b.m → take b.m images ≡ labelling (map_of b) r → r ≡ image_of_first (map_of a) (map_of b) →
@@ -242,23 +242,23 @@ images-are a b images s same whole is =
     ap (λ (k : ℕ). take k images) same ∙ whole ∙ ap (labelling (map_of b)) is in
     ap₂ (λ (q p : List ℕ). map (λ d. nth q (label_in p d)) (up_to a.m)) here s.order
 
-returns-6 : tie.Need-returns-6
+returns-6 : tie.Need-returns
 returns-6 c =
     let shows = c.before.before in
     let f = sought shows in
     let t = told2 f in
     let s = from (judged2 t) in
-    let n-same = f.before.before.before.before.before.before.if1.left in
-    let m-same = f.before.before.before.before.before.if2.left in
-    let found = pos_of_ne-zero shows.before.before.before.before.if3.false in
+    let n-same = f.before.before.before.before.before.before.if-n-n2.false in
+    let m-same = f.before.before.before.before.before.if-m-m2.false in
+    let found = pos_of_ne-zero shows.before.before.before.before.if-image-eq0.false in
     let some : 0 < image_of_first (map_of (first s)) (map_of (second s)) = rw (image-is f) at found in
     matches_passed
     (match_passed (first s) (second s) (room s) (accepting (told (ran (judged2 t)))) (accepting2 t) n-same m-same some)
     (shows.show.ensures.written
-    ∙ ap (λ (l : List ℕ). over l s.args.output.now) (images-are (first s) (second s) _ (spelt-here t) m-same (f.first_alike.ensures.whole found) (image-is f)))
+    ∙ ap (λ (l : List ℕ). over l s.args.output.now) (images-are (first s) (second s) _ (spelt-here t) m-same (f.first_alike-image.ensures.whole found) (image-is f)))
 
-pub match-maps-spec : {M : Type 1} → statement M
-match-maps-spec =
+pub match_maps_spec : {M : Type 1} → statement M
+match_maps_spec =
     tie.close
     (tie.spec
     (λ c κs. search rules)

@@ -119,43 +119,43 @@ showing-done {first} {second} {output₀} {output} {m} p s = ext_get_or 0 output
         ∙ get_or-drop (length images) output₀ (i - m) 0
         ∙ ap (λ (j : ℕ). get_or output₀ j 0) index)
 
-abbrev invariant-loop : tie.invariant-loop
-invariant-loop first second output₀ m k₀ output k = Showing first second output₀ output m k
+abbrev invariant-loop-k : tie.invariant-loop-k
+invariant-loop-k first second output₀ m k₀ output k = Showing first second output₀ output m k
 
-abbrev decreases-loop : tie.decreases-loop
-decreases-loop first second output₀ m k₀ output k = m - k
+abbrev decreases-loop-k : tie.decreases-loop-k
+decreases-loop-k first second output₀ m k₀ output k = m - k
 
 -- the places of this proof
-abbrev start : tie.At-loop invariant-loop decreases-loop → tie.Start invariant-loop decreases-loop
+abbrev start : tie.At-loop-k invariant-loop-k decreases-loop-k → tie.Start invariant-loop-k decreases-loop-k
 start c = c.before.before
 
-abbrev in-loop : tie.After-wide invariant-loop decreases-loop → tie.In-loop invariant-loop decreases-loop
-in-loop c = c.before.before.before
+abbrev in-loop : tie.After-wide invariant-loop-k decreases-loop-k → tie.In-loop-k invariant-loop-k decreases-loop-k
+in-loop c = c.before.before.before.before.before
 
 -- the dart read is one of the map's
-read-dart : (c : tie.After-wide invariant-loop decreases-loop) → (1 ≤ c.wide.result) × (c.wide.result ≤ (start (in-loop c).before).args.m)
+read-dart : (c : tie.After-wide invariant-loop-k decreases-loop-k) → (1 ≤ c.wide.result) × (c.wide.result ≤ (start (in-loop c).before).args.m)
 read-dart c =
     let t = in-loop c in
-    dart (start t.before).pre t.before.loop.inv t.loop-test.taken c.wide.result c.wide.ensures
+    dart (start t.before).requires t.before.loop-k.invariant t.loop-k-test.true c.wide.result c.wide.ensures
 
-loop-again : tie.Need-loop-preserved invariant-loop decreases-loop
+loop-again : tie.Need-loop-k-preserved invariant-loop-k decreases-loop-k
 loop-again c =
     let t = in-loop c in
-    showing-turn (start t.before).pre t.before.loop.inv t.loop-test.taken c.wide.result c.wide.ensures
+    showing-turn (start t.before).requires t.before.loop-k.invariant t.loop-k-test.true c.wide.result c.wide.ensures
 
-returns : tie.Need-returns invariant-loop decreases-loop
+returns : tie.Need-returns invariant-loop-k decreases-loop-k
 returns c =
     let s = start c.before in
-    let inv = c.before.loop.invariant in
-    let all : c.before.loop.k ≡ s.args.m = omega (arith, inv.high, c.loop-test.false) in
-    record { written = showing-done s.pre (rw all at inv) }
+    let inv = c.before.loop-k.invariant in
+    let all : c.before.loop-k.k ≡ s.args.m = omega (arith, inv.high, c.loop-k-test.false) in
+    record { written = showing-done s.requires (rw all at inv) }
 
-pub show-spec : {M : Type 1} → statement M
-show-spec =
+pub show_spec : {M : Type 1} → statement M
+show_spec =
     tie.close
     (tie.spec
-    invariant-loop
-    decreases-loop
+    invariant-loop-k
+    decreases-loop-k
     (λ c. showing-start c.before.requires)
     (λ c. omega arith)
     (λ c. omega arith)
@@ -168,5 +168,5 @@ show-spec =
     (λ c. omega arith)
     (λ c. omega arith)
     loop-again
-    (λ c. c.before.loop.invariant.long)
+    (λ c. c.before.loop-k.invariant.long)
     returns)

@@ -27,33 +27,33 @@ module _ (up : List ℕ) (d e a b : ℕ) (first : a ≡ top_of up d) (second : b
   none-under h k = sym (joined-tops ∙ simp (le-ltb a b h, le-ltb b a k))
 
 -- the places of this proof
-abbrev start : tie.After-top2 → tie.Start
-start c = c.before.before.before.before
+abbrev start : tie.After-top-second → tie.Start
+start c = c.before.before
 
 -- the tops have their places in the array
-first_top : (c : tie.After-top2) → Placed c.before.before.top.result
-first_top c = let s = start c in rw c.before.before.top.ensures (top_of_placed s.pre.forest s.pre.first)
+first_top : (c : tie.After-top-second) → Placed c.before.top-first.result
+first_top c = let s = start c in rw c.before.top-first.ensures (top_of_placed s.requires.forest s.requires.first)
 
-second_top : (c : tie.After-top2) → Placed c.top2.result
-second_top c = let s = start c in rw c.top2.ensures (top_of_placed s.pre.forest s.pre.second)
+second_top : (c : tie.After-top-second) → Placed c.top-second.result
+second_top c = let s = start c in rw c.top-second.ensures (top_of_placed s.requires.forest s.requires.second)
 
-returns : tie.Need-returns
+returns : tie.Need-returns-then-first-second
 unfolding hang
-returns c = let t = c.before in second-under _ _ _ _ _ t.before.before.top.ensures t.top2.ensures c.if1.true
+returns c = let t = c.before in second-under _ _ _ _ _ t.before.before.top-first.ensures t.top-second.ensures c.if-first-second.true
 
-returns-2 : tie.Need-returns-2
+returns-2 : tie.Need-returns-then-second-first
 unfolding hang
 returns-2 c =
     let t = c.before.before in
-    first_under _ _ _ _ _ t.before.before.top.ensures t.top2.ensures c.before.if1.false c.if2.true
+    first_under _ _ _ _ _ t.before.before.top-first.ensures t.top-second.ensures c.before.if-first-second.false c.if-second-first.true
 
-returns-3 : tie.Need-returns-3
+returns-3 : tie.Need-returns-else-second-first
 returns-3 c =
     let t = c.before.before in
-    none-under _ _ _ _ _ t.before.before.top.ensures t.top2.ensures c.before.if1.false c.if2.false
+    none-under _ _ _ _ _ t.before.top-first.ensures t.top-second.ensures c.before.if-first-second.false c.if-second-first.false
 
-pub join-spec : {M : Type 1} → statement M
-join-spec =
+pub join_spec : {M : Type 1} → statement M
+join_spec =
     tie.close
     (tie.spec
     (λ c κs. record { forest = c.before.requires.forest; placed = c.before.requires.first })

@@ -42,54 +42,54 @@ joining-done {up₀} {queue} {lead} {m = m} {k = k} j past =
     let all : k ≡ m = omega (arith, j.high) in
     j.so_far ∙ ap (λ (i : ℕ). joined_all i queue lead up₀) all
 
-abbrev invariant-loop : tie.invariant-loop
-invariant-loop up₀ queue lead m k₀ up k = Joining up₀ queue lead m up k
+abbrev invariant-loop-k : tie.invariant-loop-k
+invariant-loop-k up₀ queue lead m k₀ up k = Joining up₀ queue lead m up k
 
-abbrev decreases-loop : tie.decreases-loop
-decreases-loop up₀ queue lead m k₀ up k = m - k
+abbrev decreases-loop-k : tie.decreases-loop-k
+decreases-loop-k up₀ queue lead m k₀ up k = m - k
 
 -- the places of this proof
-abbrev start : tie.In-loop invariant-loop decreases-loop → tie.Start invariant-loop decreases-loop
+abbrev start : tie.In-loop-k invariant-loop-k decreases-loop-k → tie.Start invariant-loop-k decreases-loop-k
 start c = c.before.before
 
-abbrev in-loop : tie.After-wide2 invariant-loop decreases-loop → tie.In-loop invariant-loop decreases-loop
-in-loop c = c.before.before.before.before.before
+abbrev in-loop : tie.After-wide-in-loop-k invariant-loop-k decreases-loop-k → tie.In-loop-k invariant-loop-k decreases-loop-k
+in-loop c = c.before.before.before.before.before.before.before
 
 -- a turn's place is in the arrays
-turn : (c : tie.In-loop invariant-loop decreases-loop) → c.before.loop.k < 1020
-turn c = omega (arith, (start c).requires.few, c.loop-test.true)
+turn : (c : tie.In-loop-k invariant-loop-k decreases-loop-k) → c.before.loop-k.k < 1020
+turn c = omega (arith, (start c).requires.few, c.loop-k-test.true)
 
 -- the darts read stand at that place
-first_read : (c : tie.After-wide2 invariant-loop decreases-loop) →
+first_read : (c : tie.After-wide-in-loop-k invariant-loop-k decreases-loop-k) →
     let t = in-loop c in
-    c.before.before.wide.result ≡ nth (start t).args.queue.now (suc t.before.loop.k)
+    c.before.before.wide.result ≡ nth (start t).args.queue.now (suc t.before.loop-k.k)
 first_read c = c.before.before.wide.ensures ∙ sym (nth-suc _ _)
 
-second-read : (c : tie.After-wide2 invariant-loop decreases-loop) →
+second-read : (c : tie.After-wide-in-loop-k invariant-loop-k decreases-loop-k) →
     let t = in-loop c in
-    c.wide2.result ≡ nth (start t).args.lead.now (suc t.before.loop.k)
-second-read c = c.wide2.ensures ∙ sym (nth-suc _ _)
+    c.wide-in-loop-k.result ≡ nth (start t).args.lead.now (suc t.before.loop-k.k)
+second-read c = c.wide-in-loop-k.ensures ∙ sym (nth-suc _ _)
 
-join-requires : tie.Need-join-requires invariant-loop decreases-loop
+join-requires : tie.Need-join-requires invariant-loop-k decreases-loop-k
 join-requires c κs =
     let t = in-loop c in
-    joining-joins (start t).pre t.before.loop.inv t.loop-test.taken (first_read c) (second-read c)
+    joining-joins (start t).requires t.before.loop-k.invariant t.loop-k-test.true (first_read c) (second-read c)
 
-loop-again : tie.Need-loop-preserved invariant-loop decreases-loop
+loop-again : tie.Need-loop-k-preserved invariant-loop-k decreases-loop-k
 loop-again c =
     let w = c.before in
     let t = in-loop w in
-    joining-turn (start t).pre t.before.loop.inv t.loop-test.taken (first_read w) (second-read w) c.join.ensures
+    joining-turn (start t).requires t.before.loop-k.invariant t.loop-k-test.true (first_read w) (second-read w) c.join.ensures
 
-returns : tie.Need-returns invariant-loop decreases-loop
-returns c = joining-done c.before.loop.invariant c.loop-test.false
+returns : tie.Need-returns invariant-loop-k decreases-loop-k
+returns c = joining-done c.before.loop-k.invariant c.loop-k-test.false
 
-pub join-all-spec : {M : Type 1} → statement M
-join-all-spec =
+pub join_all_spec : {M : Type 1} → statement M
+join_all_spec =
     tie.close
     (tie.spec
-    invariant-loop
-    decreases-loop
+    invariant-loop-k
+    decreases-loop-k
     (λ c. record { high = omega arith; so_far = sym (joined_all_zero _ _ _) })
     (λ c. omega (arith, turn c.before))
     (λ c. turn c.before)

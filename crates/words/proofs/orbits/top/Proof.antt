@@ -27,51 +27,51 @@ climbing-turn {up} {d} {top} {above} f c other over =
       one-top = ap (top_of up) c.over ∙ sym (top_of_over up f top c.placed.low covered) ∙ c.one-top;
     }
 
-abbrev invariant-loop : tie.invariant-loop
-invariant-loop up d top₀ above₀ top above = Climbing up d top above
+abbrev invariant-loop-above : tie.invariant-loop-above
+invariant-loop-above up d top₀ above₀ top above = Climbing up d top above
 
-abbrev decreases-loop : tie.decreases-loop
-decreases-loop up d top₀ above₀ top above = above
+abbrev decreases-loop-above : tie.decreases-loop-above
+decreases-loop-above up d top₀ above₀ top above = above
 
 -- the places of this proof
-abbrev start : tie.At-loop invariant-loop decreases-loop → tie.Start invariant-loop decreases-loop
-start c = c.before.before.before
+abbrev start : tie.At-loop-above invariant-loop-above decreases-loop-above → tie.Start invariant-loop-above decreases-loop-above
+start c = c.before.before.before.before
 
 -- what is read in a turn is over the dart that was over the last
-read : (c : tie.After-wide2 invariant-loop decreases-loop) →
-    let l = c.before.before.before in
-    c.wide2.result ≡ nth (start l).args.up.now l.loop.above
+read : (c : tie.After-wide-above-in-loop-above invariant-loop-above decreases-loop-above) →
+    let l = c.before.before.before.before in
+    c.wide-above-in-loop-above.result ≡ nth (start l).args.up.now l.loop-above.above
 read c =
     let t = c.before.before in
-    c.wide2.ensures ∙ sym (nth_at _ _ (omega (arith, t.loop-test.true)))
+    c.wide-above-in-loop-above.ensures ∙ sym (nth_at _ _ (omega (arith, t.loop-above-test.true)))
 
-loop-holds : tie.Need-loop-init invariant-loop decreases-loop
+loop-holds : tie.Need-loop-above-init invariant-loop-above decreases-loop-above
 loop-holds c =
     let s = c.before.before in
-    record { placed = s.requires.placed; over = c.wide.ensures ∙ sym (nth_at _ _ s.requires.placed.low); one-top = refl }
+    record { placed = s.requires.placed; over = c.wide-above.ensures ∙ sym (nth_at _ _ s.requires.placed.low); one-top = refl }
 
 -- the dart over another has its place in the array
-above-placed : (c : tie.In-loop invariant-loop decreases-loop) → Placed c.before.loop.above
+above-placed : (c : tie.In-loop-above invariant-loop-above decreases-loop-above) → Placed c.before.loop-above.above
 above-placed c =
     let l = c.before in
-    (climbing-turn (start l).requires.forest l.loop.invariant c.loop-test.true refl).placed
+    (climbing-turn (start l).requires.forest l.loop-above.invariant c.loop-above-test.true refl).placed
 
-loop-again : tie.Need-loop-preserved invariant-loop decreases-loop
+loop-again : tie.Need-loop-above-preserved invariant-loop-above decreases-loop-above
 loop-again c =
     let t = c.before.before in
-    climbing-turn (start t.before).pre.forest t.before.loop.invariant t.loop-test.true (read c)
+    climbing-turn (start t.before.before).requires.forest t.before.loop-above.invariant t.loop-above-test.true (read c)
 
-returns : tie.Need-returns invariant-loop decreases-loop
+returns : tie.Need-returns invariant-loop-above decreases-loop-above
 returns c =
-    let inv = c.before.loop.invariant in
-    sym (top_of_top _ _ (sym inv.over ∙ c.loop-test.false)) ∙ inv.one-top
+    let inv = c.before.loop-above.invariant in
+    sym (top_of_top _ _ (sym inv.over ∙ c.loop-above-test.false)) ∙ inv.one-top
 
-pub top-spec : {M : Type 1} → statement M
-top-spec =
+pub top_spec : {M : Type 1} → statement M
+top_spec =
     tie.close
     (tie.spec
-    invariant-loop
-    decreases-loop
+    invariant-loop-above
+    decreases-loop-above
     (λ c. c.requires.placed.low)
     (λ c. omega (arith, c.requires.placed.low, c.requires.placed.high))
     (λ c. omega (arith, c.requires.placed.low, c.requires.placed.high))
@@ -79,8 +79,8 @@ top-spec =
     loop-holds
     (λ c. (above-placed c).low)
     (λ c. omega (arith, (above-placed c).low, (above-placed c).high))
-    (λ c. omega (arith, (above-placed c).low, (above-placed c).high))
+    (λ c. omega (arith, (above-placed c.before).low, (above-placed c.before).high))
     (λ c κs. search rules)
-    (λ c. let l = c.before.before.before in omega (arith, read c, (start l).requires.forest.lower l.loop.above (above-placed c.before.before).low))
+    (λ c. let l = c.before.before.before.before in omega (arith, read c, (start l).requires.forest.lower l.loop-above.above (above-placed c.before.before.before).low))
     loop-again
     returns)

@@ -50,34 +50,34 @@ counting-done {up} {m} {start} {d = d} c past =
     let all : d - 1 ≡ m = omega (arith, c.high) in
     c.so_far ∙ ap (λ (k : ℕ). count k (λ e. eqb (top_of up e) start)) all
 
-abbrev invariant-loop : tie.invariant-loop
-invariant-loop up m start size₀ d₀ size d = Counting up m start size d
+abbrev invariant-loop-d : tie.invariant-loop-d
+invariant-loop-d up m start size₀ d₀ size d = Counting up m start size d
 
-abbrev decreases-loop : tie.decreases-loop
-decreases-loop up m start size₀ d₀ size d = m + 1 - d
+abbrev decreases-loop-d : tie.decreases-loop-d
+decreases-loop-d up m start size₀ d₀ size d = m + 1 - d
 
 -- a dart that is counted has its place in the array
-placed : (c : tie.In-loop invariant-loop decreases-loop) → Placed c.before.loop.d
-placed c = record { low = c.before.loop.invariant.low; high = omega (arith, c.before.before.requires.few, c.loop-test.true) }
+placed : (c : tie.In-loop-d invariant-loop-d decreases-loop-d) → Placed c.before.loop-d.d
+placed c = record { low = c.before.loop-d.invariant.low; high = omega (arith, c.before.before.requires.few, c.loop-d-test.true) }
 
-loop-again : tie.Need-loop-preserved invariant-loop decreases-loop
+loop-again : tie.Need-loop-d-preserved invariant-loop-d decreases-loop-d
 loop-again c =
     let t = c.before in
-    counting-turn t.before.before.loop.invariant t.before.loop-test.true
-    (⊎_elim (λ h. inl (sym t.top.ensures ∙ h.0.taken, h.1)) (λ h. inr ((λ z. h.0.left (t.top.ensures ∙ z)), h.1)) c.if1.branch)
+    counting-turn t.before.before.loop-d.invariant t.before.loop-d-test.true
+    (⊎_elim (λ h. inl (sym t.top.ensures ∙ h.0.taken, h.1)) (λ h. inr ((λ z. h.0.left (t.top.ensures ∙ z)), h.1)) c.if-top-start.branch)
 
-returns : tie.Need-returns invariant-loop decreases-loop
-returns c = counting-done c.before.loop.invariant c.loop-test.false
+returns : tie.Need-returns invariant-loop-d decreases-loop-d
+returns c = counting-done c.before.loop-d.invariant c.loop-d-test.false
 
-pub tree-size-spec : {M : Type 1} → statement M
-tree-size-spec =
+pub tree_size_spec : {M : Type 1} → statement M
+tree_size_spec =
     tie.close
     (tie.spec
-    invariant-loop
-    decreases-loop
+    invariant-loop-d
+    decreases-loop-d
     (λ c. counting-start)
     (λ c κs. let s = c.before.before in record { forest = s.requires.forest; placed = placed c })
-    (λ c. omega (arith, counted-few c.before.before.before.loop.invariant, (placed c.before.before).high))
+    (λ c. omega (arith, counted-few c.before.before.before.loop-d.invariant, (placed c.before.before).high))
     (λ c. omega (arith, (placed c.before.before).high))
     (λ c. omega arith)
     loop-again

@@ -7,40 +7,40 @@ use Rattle.words.proofs.Sign.{Shown, shown_start, shown_turn, shown_done, shown_
 use Rattle.words.proofs.own_signature.hold.Statement.{statement}
 use Rattle.words.proofs.own_signature.hold.Tie as tie
 
-abbrev invariant-loop : tie.invariant-loop
-invariant-loop table word₀ i₀ word i = Shown table word₀ word (length table) i
+abbrev invariant-loop-i : tie.invariant-loop-i
+invariant-loop-i table word₀ i₀ word i = Shown table word₀ word (length table) i
 
-abbrev decreases-loop : tie.decreases-loop
-decreases-loop table word₀ i₀ word i = length table - i
+abbrev decreases-loop-i : tie.decreases-loop-i
+decreases-loop-i table word₀ i₀ word i = length table - i
 
 -- the places of this proof
-abbrev start : tie.At-loop invariant-loop decreases-loop → tie.Start invariant-loop decreases-loop
+abbrev start : tie.At-loop-i invariant-loop-i decreases-loop-i → tie.Start invariant-loop-i decreases-loop-i
 start c = c.before
 
-write_word : tie.Need-element-write-word invariant-loop decreases-loop
+write_word : tie.Need-bounds-word-i invariant-loop-i decreases-loop-i
 write_word c =
-    let l = c.before.before in
-    omega (arith, l.loop.invariant.long, (start l).requires.0, (start l).requires.1)
+    let l = c.before.before.before in
+    omega (arith, l.loop-i.invariant.long, (start l).requires.0, (start l).requires.1)
 
-loop-again : tie.Need-loop-preserved invariant-loop decreases-loop
+loop-again : tie.Need-loop-i-preserved invariant-loop-i decreases-loop-i
 loop-again c =
-    let l = c.before.before in
-    shown_turn l.loop.invariant (omega arith) (omega (arith, (start l).requires.0, (start l).requires.1)) c.before.loop-test.true
+    let l = c.before.before.before in
+    shown_turn l.loop-i.invariant (omega arith) (omega (arith, (start l).requires.0, (start l).requires.1)) c.before.loop-i-test.true
 
-returns : tie.Need-returns invariant-loop decreases-loop
+returns : tie.Need-returns invariant-loop-i decreases-loop-i
 returns c =
     let l = c.before in
     record {
-      long = l.loop.invariant.long ∙ (start l).requires.1;
-      numbers = shown_front _ _ _ (shown_done l.loop.invariant c.loop-test.false);
+      long = l.loop-i.invariant.long ∙ (start l).requires.1;
+      numbers = shown_front _ _ _ (shown_done l.loop-i.invariant c.loop-i-test.false);
     }
 
-pub hold-spec : {M : Type 1} → statement M
-hold-spec =
+pub hold_spec : {M : Type 1} → statement M
+hold_spec =
     tie.close
     (tie.spec
-    invariant-loop
-    decreases-loop
+    invariant-loop-i
+    decreases-loop-i
     (λ c. shown_start _ _ _)
     (λ c. omega arith)
     (λ c. omega arith)

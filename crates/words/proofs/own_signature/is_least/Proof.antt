@@ -23,7 +23,7 @@ use Rattle.words.proofs.Starts.{greater_not_less, seeks_ready, same_stays, same-
 use Rattle.words.proofs.Racing.{TriedWhole, tried_whole}
 use Rattle.words.proofs.Kin.{Kin, kin_none, Alike, tied_alike, alike_joins, kin_joined_all}
 use Rattle.words.proofs.FirstRow.{rank_less, passed_by}
-use Rattle.words.proofs.Own.{own_yielded, own_less}
+use Rattle.words.proofs.OwnWord.{own_yielded, own_less}
 use Rattle.words.proofs.own_signature.is_least.Statement.{statement}
 use Rattle.words.proofs.own_signature.is_least.Tie as tie
 
@@ -101,41 +101,41 @@ module _ (g : Given) {back labels₀ queue₀ lead held₀ : List ℕ} (p : Lead
   unfolding map_of
   joined-kin is = kin_joined_all p.seeks.usable.taken y.kin (tied is) g.m (omega arith)
 
-abbrev invariant-loop : tie.invariant-loop
-invariant-loop n m table back labels₀ queue₀ lead word₀ first up₀ d₀ labels queue word up d = Trying (lent n m table) word₀ labels queue word up d
+abbrev invariant-loop-d : tie.invariant-loop-d
+invariant-loop-d n m table back labels₀ queue₀ lead word₀ first up₀ d₀ labels queue word up d = Trying (lent n m table) word₀ labels queue word up d
 
-abbrev decreases-loop : tie.decreases-loop
-decreases-loop n m table back labels₀ queue₀ lead word₀ first up₀ d₀ labels queue word up d = m - d
+abbrev decreases-loop-d : tie.decreases-loop-d
+decreases-loop-d n m table back labels₀ queue₀ lead word₀ first up₀ d₀ labels queue word up d = m - d
 
 -- the places of this proof
-abbrev start : tie.At-loop invariant-loop decreases-loop → tie.Start invariant-loop decreases-loop
+abbrev start : tie.At-loop-d invariant-loop-d decreases-loop-d → tie.Start invariant-loop-d decreases-loop-d
 start c = c.before.before.before
 
-abbrev in-loop : tie.After-try-start invariant-loop decreases-loop → tie.In-loop invariant-loop decreases-loop
+abbrev in-loop : tie.After-try_start-side invariant-loop-d decreases-loop-d → tie.In-loop-d invariant-loop-d decreases-loop-d
 in-loop c = c.before.before.before.before.before.before.before
 
-abbrev tried : tie.After-alike invariant-loop decreases-loop → tie.After-try-start invariant-loop decreases-loop
+abbrev tried : tie.After-alike invariant-loop-d decreases-loop-d → tie.After-try_start-side invariant-loop-d decreases-loop-d
 tried c = c.before.before.before
 
-abbrev given : tie.At-loop invariant-loop decreases-loop → Given
+abbrev given : tie.At-loop-d invariant-loop-d decreases-loop-d → Given
 given c = let a = (start c).args in lent a.n a.m a.table.now
 
 -- the start of a turn is a dart
-dart : (c : tie.In-loop invariant-loop decreases-loop) → IsDart (map_of (given c.before)) (c.before.loop.d + 1)
+dart : (c : tie.In-loop-d invariant-loop-d decreases-loop-d) → IsDart (map_of (given c.before)) (c.before.loop-d.d + 1)
 unfolding map_of
-dart c = (omega arith, omega (arith, c.loop-test.true))
+dart c = (omega arith, omega (arith, c.loop-d-test.true))
 
 -- how a start came out
-not-less : (c : tie.After-alike invariant-loop decreases-loop) → is_less (tried c).try-start.result ≡ false
-not-less c = let b = c.before.before in sym b.below.ensures ∙ c.before.if2.false
+not-less : (c : tie.After-alike invariant-loop-d decreases-loop-d) → is_less (tried c).try_start-side.result ≡ false
+not-less c = let b = c.before.before in sym b.below.ensures ∙ c.before.if-below.false
 
-rank-requires : tie.Need-rank-requires invariant-loop decreases-loop
+rank-requires : tie.Need-rank-first-requires invariant-loop-d decreases-loop-d
 unfolding map_of
 rank-requires c κs =
     let s = c.before.requires.seeks in
     record { usable = s.usable; dart = (omega arith, s.usable.taken.bounds.darts_least) }
 
-loop-holds : tie.Need-loop-init invariant-loop decreases-loop
+loop-holds : tie.Need-loop-d-init invariant-loop-d decreases-loop-d
 loop-holds c =
     let s = c.before.before in
     record {
@@ -148,81 +148,81 @@ loop-holds c =
     }
 
 -- a start may be ranked
-passed-over-requires : tie.Need-passed-over-requires invariant-loop decreases-loop
+passed-over-requires : tie.Need-passed_over-requires invariant-loop-d decreases-loop-d
 passed-over-requires c κs =
     let i = c.before in
-    let s = (start i.before).pre.seeks in
+    let s = (start i.before).requires.seeks in
     record { usable = s.usable; dart = dart i }
 
-loop-again : tie.Need-loop-preserved invariant-loop decreases-loop
+loop-again : tie.Need-loop-d-preserved-then-passed_over invariant-loop-d decreases-loop-d
 loop-again c =
     let o = c.before in
     let i = o.before.before in
     let l = i.before in
-    trying_passed (start l).requires l.loop.invariant refl (dart i) l.before.rank.ensures (sym o.passed_over.ensures ∙ c.if1.true)
+    trying_passed (start l).requires l.loop-d.invariant refl (dart i) l.before.rank-first.ensures (sym o.passed_over.ensures ∙ c.if-passed_over.true)
 
-try-start-requires : tie.Need-try-start-requires invariant-loop decreases-loop
+try-start-requires : tie.Need-try_start-side-requires invariant-loop-d decreases-loop-d
 try-start-requires c κs =
     let t = c.before.before.before.before.before.before in
-    let y = t.before.loop.invariant in
-    seeks_ready (start t.before).pre.seeks (dart t) y.blank y.long_queue y.firm
+    let y = t.before.loop-d.invariant in
+    seeks_ready (start t.before).requires.seeks (dart t) y.blank y.long_queue y.firm
 
-returns : tie.Need-returns invariant-loop decreases-loop
+returns : tie.Need-returns-then-below invariant-loop-d decreases-loop-d
 returns c =
     let b = c.before in
     let t = b.before in
     let i = in-loop t in
     let l = i.before in
-    let below = less_told _ _ _ _ (came (given l) (start l).pre l.loop.inv refl (dart i) t.try-start.ensures) b.below.ensures ∙ c.if2.true in
+    let below = less_told _ _ _ _ (came (given l) (start l).requires l.loop-d.invariant refl (dart i) t.try_start-side.ensures) b.below.ensures ∙ c.if-below.true in
     sym (own_less _ _ _ (dart i) below)
 
 -- a start that is tied
-level : (c : tie.Then3 invariant-loop decreases-loop) → is_same (tried c.before).try-start.result ≡ true
-level c = sym c.before.alike.ensures ∙ c.if3.true
+level : (c : tie.Then-alike invariant-loop-d decreases-loop-d) → is_same (tried c.before).try_start-side.result ≡ true
+level c = sym c.before.alike.ensures ∙ c.if-alike.true
 
-join-all-requires : tie.Need-join-all-requires invariant-loop decreases-loop
+join-all-requires : tie.Need-join_all-requires invariant-loop-d decreases-loop-d
 join-all-requires c κs =
-    let e = c.before.before in
-    let t = tried e.before in
+    let e = c.before in
+    let t = tried e in
     let i = in-loop t in
     let l = i.before in
-    joins (given l) (start l).pre l.loop.inv refl (dart i) t.try-start.ensures (level e)
+    joins (given l) (start l).requires l.loop-d.invariant refl (dart i) t.try_start-side.ensures (level e)
 
-loop-again-2 : tie.Need-loop-preserved-2 invariant-loop decreases-loop
+loop-again-2 : tie.Need-loop-d-preserved-then-alike invariant-loop-d decreases-loop-d
 loop-again-2 c =
-    let e = c.before.before.before in
-    let t = tried e.before in
+    let e = c.before.before in
+    let t = tried e in
     let i = in-loop t in
     let l = i.before in
-    trying_turn (given l) (start l).pre l.loop.inv refl (dart i) t.try-start.ensures
-    (rw c.join-all.ensures (joined-kin (given l) (start l).pre l.loop.inv refl (dart i) t.try-start.ensures (level e)))
+    trying_turn (given l) (start l).requires l.loop-d.invariant refl (dart i) t.try_start-side.ensures
+    (rw c.join_all.ensures (joined-kin (given l) (start l).requires l.loop-d.invariant refl (dart i) t.try_start-side.ensures (level e)))
     (not-less e.before)
 
-loop-again-3 : tie.Need-loop-preserved-3 invariant-loop decreases-loop
+loop-again-3 : tie.Need-loop-d-preserved invariant-loop-d decreases-loop-d
 loop-again-3 c =
     let a = c.before in
     let t = tried a in
     let i = in-loop t in
     let l = i.before in
-    trying_turn (given l) (start l).pre l.loop.inv refl (dart i) t.try-start.ensures l.loop.inv.kin (not-less a)
+    trying_turn (given l) (start l).requires l.loop-d.invariant refl (dart i) t.try_start-side.ensures l.loop-d.invariant.kin (not-less a)
 
-returns-2 : tie.Need-returns-2 invariant-loop decreases-loop
+returns-2 : tie.Need-returns invariant-loop-d decreases-loop-d
 unfolding map_of
 returns-2 c =
     let l = c.before in
     let p = (start l).requires in
     let one : IsDart (map_of (given l)) 1 = (omega arith, p.seeks.usable.taken.bounds.darts_least) in
-    sym (own_yielded _ _ (passed_misses _ l.loop.invariant.none_less (omega (arith, c.loop-test.false))) 1 one (word_yields _ _ 1 p.first))
+    sym (own_yielded _ _ (passed_misses _ l.loop-d.invariant.none_less (omega (arith, c.loop-d-test.false))) 1 one (word_yields _ _ 1 p.first))
 
-pub is-least-spec : {M : Type 1} → statement M
-is-least-spec =
+pub is_least_spec : {M : Type 1} → statement M
+is_least_spec =
     tie.close
     (tie.spec
-    invariant-loop
-    decreases-loop
+    invariant-loop-d
+    decreases-loop-d
     rank-requires
     loop-holds
-    (λ c. omega (arith, (dart c).1, darts_most (start c.before).pre.seeks.usable.shaped.bounds))
+    (λ c. omega (arith, (dart c).1, darts_most (start c.before).requires.seeks.usable.shaped.bounds))
     passed-over-requires
     (λ c. omega arith)
     loop-again

@@ -15,7 +15,7 @@ use Rattle.words.specs.Inside.{side_of, is_same, Tried, HeldAs}
 use Rattle.words.specs.declared.engine.Side.{Side}
 use Rattle.words.proofs.Order.{yields_word}
 use Rattle.words.proofs.Racing.{TriedWhole, tried_whole}
-use Rattle.words.proofs.Own.{own_first, own_held}
+use Rattle.words.proofs.OwnWord.{own_first, own_held}
 use Rattle.words.proofs.Starts.{same_stays, same-yields}
 use Rattle.words.proofs.own_signature.is_own.Statement.{statement}
 use Rattle.words.proofs.own_signature.is_own.Tie as tie
@@ -48,10 +48,10 @@ module _ (g : Given) (s : Shaped g) (a : Accepted (map_of g)) {held labels' queu
 abbrev start : tie.After-hold → tie.Start
 start c = c.before.before.before
 
-abbrev held : tie.After-try-start → tie.After-hold
+abbrev held : tie.After-try_start-first → tie.After-hold
 held c = c.before.before.before.before
 
-abbrev led : tie.After-is-least → tie.Then1
+abbrev led : tie.After-is_least → tie.Then-alike
 led c = c.before.before.before.before.before
 
 -- what the caller lends
@@ -63,7 +63,7 @@ hold-requires c κs =
     let s = c.before.before.requires.usable.shaped in
     (omega (arith, s.long, s.bounds.table_most), length-replicate {A = ℕ} 1020 0)
 
-try-start-requires : tie.Need-try-start-requires
+try-start-requires : tie.Need-try_start-first-requires
 unfolding map_of
 try-start-requires c κs =
     let h = c.before.before.before in
@@ -77,14 +77,14 @@ try-start-requires c κs =
       long_word = h.hold.ensures.long;
     }
 
-is-least-requires : tie.Need-is-least-requires
+is-least-requires : tie.Need-is_least-requires
 is-least-requires c κs =
     let l = c.before.before.before.before in
     let a = l.before in
     let t = a.before in
     let h = held t in
-    let p = (start h).pre in
-    let done = t.try-start.ensures in
+    let p = (start h).requires in
+    let done = t.try_start-first.ensures in
     record {
       seeks = record {
         usable = p.usable;
@@ -93,27 +93,27 @@ is-least-requires c κs =
         long_word = first_long _ p.usable.shaped p.usable.taken h.hold.ensures done a.alike.ensures;
       };
       long_lead = done.long_queue;
-      order = first-order _ p.usable.shaped p.usable.taken h.hold.ensures done a.alike.ensures l.if1.true;
-      first = first_word _ p.usable.shaped p.usable.taken h.hold.ensures done a.alike.ensures l.if1.true;
+      order = first-order _ p.usable.shaped p.usable.taken h.hold.ensures done a.alike.ensures l.if-alike.true;
+      first = first_word _ p.usable.shaped p.usable.taken h.hold.ensures done a.alike.ensures l.if-alike.true;
     }
 
-returns : tie.Need-returns
+returns : tie.Need-returns-then-alike
 returns c =
     let a = (led c).before in
     let t = a.before in
     let h = held t in
     let s = start h in
-    c.is-least.ensures
-    ∙ ap (λ (w : List ℕ). same w (signature (map_of (given s)))) (first-held _ s.pre.usable.shaped s.pre.usable.taken h.hold.ensures t.try-start.ensures a.alike.ensures)
+    c.is_least.ensures
+    ∙ ap (λ (w : List ℕ). same w (signature (map_of (given s)))) (first-held _ s.requires.usable.shaped s.requires.usable.taken h.hold.ensures t.try_start-first.ensures a.alike.ensures)
 
-returns-2 : tie.Need-returns-2
+returns-2 : tie.Need-returns
 returns-2 c =
     let a = c.before in
     let t = a.before in
     let h = held t in
-    let p = (start h).pre in
-    let missed = first-yields _ p.usable.shaped p.usable.taken h.hold.ensures t.try-start.ensures a.alike.ensures ∙ c.if1.false in
+    let p = (start h).requires in
+    let missed = first-yields _ p.usable.shaped p.usable.taken h.hold.ensures t.try_start-first.ensures a.alike.ensures ∙ c.if-alike.false in
     sym (own_first _ p.usable.taken missed)
 
-pub is-own-spec : {M : Type 1} → statement M
-is-own-spec = tie.close (tie.spec hold-requires try-start-requires (λ c κs. search rules) is-least-requires returns returns-2)
+pub is_own_spec : {M : Type 1} → statement M
+is_own_spec = tie.close (tie.spec hold-requires try-start-requires (λ c κs. search rules) is-least-requires returns returns-2)

@@ -29,41 +29,41 @@ module _ {labels queue : List ℕ} {given : ℕ} {q : List ℕ} (h : Holds label
       }
 
 -- what is read is the dart's label
-label : (c : tie.After-wide) →
+label : (c : tie.After-wide-held) →
     let a = c.before.before.before.args in
-    c.wide.result ≡ label_in (take a.self.given a.queue.now) a.e
+    c.wide-held.result ≡ label_in (take a.self.given a.queue.now) a.e
 label c =
     let start = c.before.before.before in
-    c.wide.ensures ∙ start.requires.holds.label start.args.e (omega arith) start.requires.within
+    c.wide-held.ensures ∙ start.requires.holds.label start.args.e (omega arith) start.requires.within
 
 -- where 0 stands in the array, the dart has no label
-unlabelled : (c : tie.Else2) →
+unlabelled : (c : tie.Else-held-ne0) →
     let a = c.before.before.before.before.args in
     label_in (take a.self.given a.queue.now) a.e ≡ 0
-unlabelled c = sym (label c.before) ∙ c.if2.false
+unlabelled c = sym (label c.before) ∙ c.if-held-ne0.false
 
 -- then there is room for it
-room : (c : tie.Else2) → c.before.before.before.before.args.self.given < 1020
+room : (c : tie.Else-held-ne0) → c.before.before.before.before.args.self.given < 1020
 room c = c.before.before.before.before.requires.room (omega arith) (unlabelled c)
 
-returns : tie.Need-returns
-returns c = met-nothing c.before.requires.holds _ c.before.requires.none c.if1.true
+returns : tie.Need-returns-then-e-eq0
+returns c = met-nothing c.before.requires.holds _ c.before.requires.none c.if-e-eq0.true
 
-returns-2 : tie.Need-returns-2
+returns-2 : tie.Need-returns-then-held-ne0
 returns-2 c =
     let start = c.before.before.before.before in
-    met-old start.requires.holds start.args.e _ (label c.before) (pos_of_ne-zero c.if2.true)
+    met-old start.requires.holds start.args.e _ (label c.before) (pos_of_ne-zero c.if-held-ne0.true)
 
-element-write-queue : tie.Need-element-write-queue
-element-write-queue c = room c
+element-write-queue : tie.Need-bounds-queue-given
+element-write-queue c = room c.before
 
-returns-3 : tie.Need-returns-3
+returns-3 : tie.Need-returns
 returns-3 c =
     let start = c.before.before.before.before in
-    met-new start.requires.holds start.args.e (omega arith) start.requires.within (unlabelled c) (room c)
+    met-new start.requires.holds start.args.e (omega arith) start.requires.within (unlabelled c.before) (room c.before)
 
-pub meet-spec : {M : Type 1} → statement M
-meet-spec =
+pub meet_spec : {M : Type 1} → statement M
+meet_spec =
     tie.close
     (tie.spec
     returns

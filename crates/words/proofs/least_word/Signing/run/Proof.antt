@@ -25,43 +25,43 @@ use Rattle.words.proofs.Trying.{best_word, best_word_none, Trying, Turn, turn_da
 use Rattle.words.proofs.least_word.Signing.run.Statement.{statement}
 use Rattle.words.proofs.least_word.Signing.run.Tie as tie
 
-abbrev invariant-loop : tie.invariant-loop
-invariant-loop n m table back labels₀ self₀ least queue₀ lead₀ up₀ rows₀ start₀ d₀ labels self queue lead up rows start d =
+abbrev invariant-loop-d : tie.invariant-loop-d
+invariant-loop-d n m table back labels₀ self₀ least queue₀ lead₀ up₀ rows₀ start₀ d₀ labels self queue lead up rows start d =
     Trying (map_of (lent n m table)) least labels queue lead up self.word start rows d
 
-abbrev decreases-loop : tie.decreases-loop
-decreases-loop n m table back labels₀ self₀ least queue₀ lead₀ up₀ rows₀ start₀ d₀ labels self queue lead up rows start d = (m - d) + (m - rows)
+abbrev decreases-loop-d : tie.decreases-loop-d
+decreases-loop-d n m table back labels₀ self₀ least queue₀ lead₀ up₀ rows₀ start₀ d₀ labels self queue lead up rows start d = (m - d) + (m - rows)
 
 -- the places of this proof
-abbrev start : tie.At-loop invariant-loop decreases-loop → tie.Start invariant-loop decreases-loop
+abbrev start : tie.At-loop-d invariant-loop-d decreases-loop-d → tie.Start invariant-loop-d decreases-loop-d
 start c = c.before.before.before.before
 
-abbrev ranks-of : tie.At-loop invariant-loop decreases-loop → tie.After-least-rank invariant-loop decreases-loop
+abbrev ranks-of : tie.At-loop-d invariant-loop-d decreases-loop-d → tie.After-least_rank-least invariant-loop-d decreases-loop-d
 ranks-of c = c.before.before
 
-abbrev in-loop : tie.After-try-start invariant-loop decreases-loop → tie.In-loop invariant-loop decreases-loop
+abbrev in-loop : tie.After-try_start-side invariant-loop-d decreases-loop-d → tie.In-loop-d invariant-loop-d decreases-loop-d
 in-loop c = c.before.before.before.before.before.before.before
 
-abbrev tried : tie.After-agrees invariant-loop decreases-loop → tie.After-try-start invariant-loop decreases-loop
+abbrev tried : tie.After-agrees invariant-loop-d decreases-loop-d → tie.After-try_start-side invariant-loop-d decreases-loop-d
 tried c = c.before
 
-abbrev settled : tie.After-up2 invariant-loop decreases-loop → tie.Else2 invariant-loop decreases-loop
+abbrev settled : tie.After-up-in-loop-d-1 invariant-loop-d decreases-loop-d → tie.Else-agrees invariant-loop-d decreases-loop-d
 settled c = c.before.before.before
 
-abbrev given : tie.At-loop invariant-loop decreases-loop → Given
+abbrev given : tie.At-loop-d invariant-loop-d decreases-loop-d → Given
 given c = let a = (start c).args in lent a.n a.m a.table.now
 
 -- the start of a turn is a dart
-start-in : (c : tie.In-loop invariant-loop decreases-loop) → c.before.loop.d + 1 ≤ (start c.before).args.m
-start-in c = omega (arith, c.loop-test.true)
+start-in : (c : tie.In-loop-d invariant-loop-d decreases-loop-d) → c.before.loop-d.d + 1 ≤ (start c.before).args.m
+start-in c = omega (arith, c.loop-d-test.true)
 
 -- so a turn is one start more
-turn-of : (c : tie.In-loop invariant-loop decreases-loop) →
+turn-of : (c : tie.In-loop-d invariant-loop-d decreases-loop-d) →
     let l = c.before in
-    Turn (given l) (ranks-of l).least-rank.result l.loop.labels l.loop.queue l.loop.lead l.loop.up l.loop.self.word l.loop.start l.loop.rows l.loop.d
+    Turn (given l) (ranks-of l).least_rank-least.result l.loop-d.labels l.loop-d.queue l.loop-d.lead l.loop-d.up l.loop-d.self.word l.loop-d.start l.loop-d.rows l.loop-d.d
 turn-of c =
     let l = c.before in
-    record { taken = (start l).requires.usable.taken; ranks = (ranks-of l).least-rank.ensures; so_far = l.loop.invariant; in_map = start-in c }
+    record { taken = (start l).requires.usable.taken; ranks = (ranks-of l).least_rank-least.ensures; so_far = l.loop-d.invariant; in_map = start-in c }
 
 -- some rows are spelt out at first, as many as there are at most
 few-low : (m : ℕ) → 1 ≤ m → 1 ≤ few_rows m
@@ -80,13 +80,13 @@ few-high m = at (tested (ltb m 16))
     at (passes e) = simp e (omega arith)
     at (fails e) = simp e (omega (arith, ltb-false m 16 e))
 
-loop-holds : tie.Need-loop-init invariant-loop decreases-loop
+loop-holds : tie.Need-loop-d-init invariant-loop-d decreases-loop-d
 unfolding map_of
 loop-holds c =
     let s = c.before.before.before in
     let m = s.args.m in
-    let few = c.few-rows.ensures in
-    let high : c.few-rows.result ≤ m = rw few (few-high m) in
+    let few = c.few_rows-rows.ensures in
+    let high : c.few_rows-rows.result ≤ m = rw few (few-high m) in
     record {
       high = omega arith;
       rows_low = rw few (few-low m s.requires.usable.shaped.bounds.darts_least);
@@ -101,24 +101,24 @@ loop-holds c =
     }
 
 -- a start may be ranked
-passed-over-requires : tie.Need-passed-over-requires invariant-loop decreases-loop
+passed-over-requires : tie.Need-passed_over-requires invariant-loop-d decreases-loop-d
 unfolding map_of
 passed-over-requires c κs =
     let i = c.before in
     let s = start i.before in
-    record { usable = s.pre.usable; dart = (omega arith, start-in i) }
+    record { usable = s.requires.usable; dart = (omega arith, start-in i) }
 
-loop-again : tie.Need-loop-preserved invariant-loop decreases-loop
-loop-again c = let p = c.before in trying_passed (turn-of p.before.before) (sym p.passed_over.ensures ∙ c.if1.true)
+loop-again : tie.Need-loop-d-preserved-then-passed_over invariant-loop-d decreases-loop-d
+loop-again c = let p = c.before in trying_passed (turn-of p.before.before) (sym p.passed_over.ensures ∙ c.if-passed_over.true)
 
-try-start-requires : tie.Need-try-start-requires invariant-loop decreases-loop
+try-start-requires : tie.Need-try_start-side-requires invariant-loop-d decreases-loop-d
 unfolding map_of
 try-start-requires c κs =
     let i = c.before.before.before.before.before.before in
     let s = start i.before in
-    let y = i.before.loop.invariant in
+    let y = i.before.loop-d.invariant in
     record {
-      usable = s.pre.usable;
+      usable = s.requires.usable;
       dart = (omega arith, start-in i);
       some_rows = y.rows_high;
       blank = y.blank;
@@ -127,22 +127,22 @@ try-start-requires c κs =
     }
 
 -- the start has no dart over it, and is of the least rank
-kept-start : (c : tie.After-try-start invariant-loop decreases-loop) →
+kept-start : (c : tie.After-try_start-side invariant-loop-d decreases-loop-d) →
     let l = (in-loop c).before in
-    (nth l.loop.up (l.loop.d + 1) ≡ 0) × (rank_of (map_of (given l)) (l.loop.d + 1) ≡ (ranks-of l).least-rank.result)
+    (nth l.loop-d.up (l.loop-d.d + 1) ≡ 0) × (rank_of (map_of (given l)) (l.loop-d.d + 1) ≡ (ranks-of l).least_rank-least.result)
 kept-start c =
     let l = (in-loop c).before in
     let e = c.before.before.before.before in
-    let free = not_passed _ _ _ _ (sym e.before.passed_over.ensures ∙ e.if1.false) in
-    (free.0, omega (arith, free.1, (ranks-of l).least-rank.ensures.none_less _ (turn_dart (turn-of (in-loop c)))))
+    let free = not_passed _ _ _ _ (sym e.before.passed_over.ensures ∙ e.if-passed_over.false) in
+    (free.0, omega (arith, free.1, (ranks-of l).least_rank-least.ensures.none_less _ (turn_dart (turn-of (in-loop c)))))
 
 -- a start that agrees with all rows that are known, where some are not
-open-rows : (c : tie.Then2 invariant-loop decreases-loop) →
+open-rows : (c : tie.Then-agrees invariant-loop-d decreases-loop-d) →
     let t = tried c.before in
     let l = (in-loop t).before in
-    (is_same t.try-start.result ≡ true) × (l.loop.rows < (start l).args.m)
+    (is_same t.try_start-side.result ≡ true) × (l.loop-d.rows < (start l).args.m)
 open-rows c =
-    let both = both_true _ _ (sym c.before.agrees.ensures ∙ c.if2.true) in
+    let both = both_true _ _ (sym c.before.agrees.ensures ∙ c.if-agrees.true) in
     (both.0, ltb-true _ _ both.1)
 
 -- otherwise a start that is the same is so in all rows
@@ -153,16 +153,16 @@ all-rows rows m side most not-open is = at (tested (ltb rows m))
     at (passes e) = absurd (let no : true ≡ false = rw (is, e) at not-open in true_not_false refl no)
     at (fails e) = omega (arith, ltb-false rows m e)
 
-decided : (c : tie.Else2 invariant-loop decreases-loop) →
+decided : (c : tie.Else-agrees invariant-loop-d decreases-loop-d) →
     let t = tried c.before in
     let l = (in-loop t).before in
-    is_same t.try-start.result ≡ true → l.loop.rows ≡ (start l).args.m
+    is_same t.try_start-side.result ≡ true → l.loop-d.rows ≡ (start l).args.m
 unfolding map_of
 decided c =
     let l = (in-loop (tried c.before)).before in
-    all-rows _ _ _ l.loop.inv.rows_high (sym c.before.agrees.ensures ∙ c.if2.false)
+    all-rows _ _ _ l.loop-d.invariant.rows_high (sym c.before.agrees.ensures ∙ c.if-agrees.false)
 
-spell-out-requires : tie.Need-spell-out-requires invariant-loop decreases-loop
+spell-out-requires : tie.Need-spell_out-requires invariant-loop-d decreases-loop-d
 unfolding map_of
 spell-out-requires c κs =
     let e = c.before.before.before in
@@ -170,14 +170,14 @@ spell-out-requires c κs =
     let i = in-loop t in
     let l = i.before in
     let s = start l in
-    let y = l.loop.inv in
-    let done = t.try-start.ensures in
+    let y = l.loop-d.invariant in
+    let done = t.try_start-side.ensures in
     let is = (open-rows e).0 in
     let there = some_start (turn-of i) done
     (same_rows (turn-of i) done is) in
     record {
       ready = record {
-        usable = s.pre.usable;
+        usable = s.requires.usable;
         dart = there;
         some_rows = y.rows_high;
         blank = done.blank;
@@ -187,50 +187,50 @@ spell-out-requires c κs =
       partly = partly_still (turn-of i) done is;
     }
 
-loop-again-2 : tie.Need-loop-preserved-2 invariant-loop decreases-loop
+loop-again-2 : tie.Need-loop-d-preserved-then-agrees invariant-loop-d decreases-loop-d
 loop-again-2 c =
     let e = c.before.before.before.before in
     let t = tried e.before in
     let i = in-loop t in
-    trying_spelt (turn-of i) t.try-start.ensures (open-rows e).0 (open-rows e).1 c.spell-out.ensures
+    trying_spelt (turn-of i) t.try_start-side.ensures (open-rows e).0 (open-rows e).1 c.spell_out.ensures
 
-settle-requires : tie.Need-settle-requires invariant-loop decreases-loop
+settle-requires : tie.Need-settle-start-requires invariant-loop-d decreases-loop-d
 settle-requires c κs =
     let e = settled c in
     let t = tried e.before in
     let i = in-loop t in
     let l = i.before in
     let s = start l in
-    record { few = darts_most s.pre.usable.shaped.bounds; long_queue = t.try-start.ensures.long_queue; long_lead = l.loop.inv.long_lead; joins = settles (turn-of i) t.try-start.ensures (decided e) }
+    record { few = darts_most s.requires.usable.shaped.bounds; long_queue = t.try_start-side.ensures.long_queue; long_lead = l.loop-d.invariant.long_lead; joins = settles (turn-of i) t.try_start-side.ensures (decided e) }
 
-loop-again-3 : tie.Need-loop-preserved-3 invariant-loop decreases-loop
+loop-again-3 : tie.Need-loop-d-preserved invariant-loop-d decreases-loop-d
 loop-again-3 c =
     let e = settled c.before in
     let t = tried e.before in
     let i = in-loop t in
-    trying_turn (turn-of i) t.try-start.ensures (kept-start t).0 (kept-start t).1 (decided e) c.settle.ensures
+    trying_turn (turn-of i) t.try_start-side.ensures (kept-start t).0 (kept-start t).1 (decided e) c.settle-start.ensures
 
 -- all starts are tried, passed over or left out: one leads
-led : (c : tie.After-loop invariant-loop decreases-loop) →
+led : (c : tie.After-loop-d invariant-loop-d decreases-loop-d) →
     let l = c.before in
-    Tied (map_of (given l)) l.loop.start (best_word (map_of (given l)) l.loop.start)
+    Tied (map_of (given l)) l.loop-d.start (best_word (map_of (given l)) l.loop-d.start)
 unfolding map_of
 led c =
     let l = c.before in
     let taken = (start l).requires.usable.taken in
-    best_led taken (rank_filter taken _ (ranks-of l).least-rank.ensures) l.loop.invariant.best (omega (arith, c.loop-test.false))
+    best_led taken (rank_filter taken _ (ranks-of l).least_rank-least.ensures) l.loop-d.invariant.best (omega (arith, c.loop-d-test.false))
 
-spell-out-requires-2 : tie.Need-spell-out-requires-2 invariant-loop decreases-loop
+spell-out-requires-2 : tie.Need-spell_out-requires-2 invariant-loop-d decreases-loop-d
 unfolding map_of
 spell-out-requires-2 c κs =
     let e = c.before.before.before in
     let l = e.before in
     let s = start l in
-    let y = l.loop.invariant in
+    let y = l.loop-d.invariant in
     let t = led e in
     record {
       ready = record {
-        usable = s.pre.usable;
+        usable = s.requires.usable;
         dart = t.is_first.dart;
         some_rows = y.rows_high;
         blank = y.blank;
@@ -240,34 +240,34 @@ spell-out-requires-2 c κs =
       partly = rw (← t.is_word) y.partly;
     }
 
-returns : tie.Need-returns invariant-loop decreases-loop
+returns : tie.Need-returns invariant-loop-d decreases-loop-d
 unfolding map_of
 returns c =
     let o = c.before.before in
     let e = o.before.before.before.before in
     let l = e.before in
     let s = start l in
-    let y = l.loop.invariant in
-    let taken = s.pre.usable.taken in
-    let filter = rank_filter taken _ (ranks-of l).least-rank.ensures in
-    let all : s.args.m < l.loop.d + 1 = omega (arith, e.loop-test.false) in
+    let y = l.loop-d.invariant in
+    let taken = s.requires.usable.taken in
+    let filter = rank_filter taken _ (ranks-of l).least_rank-least.ensures in
+    let all : s.args.m < l.loop-d.d + 1 = omega (arith, e.loop-d-test.false) in
     record {
-      long = o.spell-out2.ensures.long_word;
-      is_least_word = o.spell-out2.ensures.whole_word ∙ sym (led e).is_word ∙ best_signature taken filter y.best all;
+      long = o.spell_out-2.ensures.long_word;
+      is_least_word = o.spell_out-2.ensures.whole_word ∙ sym (led e).is_word ∙ best_signature taken filter y.best all;
       first = best_first taken filter y.best all;
-      alike = c.tree-size.ensures ∙ best_symmetries taken filter y.best all;
+      alike = c.tree_size.ensures ∙ best_symmetries taken filter y.best all;
     }
 
 pub run_spec : {M : Type 1} → statement M
 run_spec =
     tie.close
     (tie.spec
-    invariant-loop
-    decreases-loop
+    invariant-loop-d
+    decreases-loop-d
     (λ c κs. c.before.requires.usable)
     (λ c κs. search rules)
     loop-holds
-    (λ c. omega (arith, start-in c, darts_most (start c.before).pre.usable.shaped.bounds))
+    (λ c. omega (arith, start-in c, darts_most (start c.before).requires.usable.shaped.bounds))
     passed-over-requires
     (λ c. omega arith)
     loop-again
@@ -280,5 +280,5 @@ run_spec =
     (λ c. omega arith)
     loop-again-3
     spell-out-requires-2
-    (λ c κs. let s = start c.before.before.before.before.before.before in record { forest = c.before.before.before.before.before.before.loop.invariant.best.kin.forest; few = darts_most s.pre.usable.shaped.bounds })
+    (λ c κs. let s = start c.before.before.before.before.before.before in record { forest = c.before.before.before.before.before.before.loop-d.invariant.best.kin.forest; few = darts_most s.requires.usable.shaped.bounds })
     returns)

@@ -30,16 +30,16 @@ module _ (word : List ℕ) (p x : ℕ) (firm : Bool) (y : ℕ) (held : y ≡ get
   weighed-same h k = record { is_side_after = rw (← held) (simp (le-ltb x y h, le-ltb y x k)); written = refl }
 
 returns : tie.Need-returns-then-firm
-returns c = let read = c.before.before in weighed-firm _ _ _ _ _ read.wide-held.ensures c.before.if-number-held.true c.if-firm.true
+returns c = let read = c.before.before in weighed-firm _ _ _ _ _ read.wide-held.ensures c.if-number-held.true c.if-firm.true
 
 returns-2 : tie.Need-returns-then-number-held
-returns-2 c = let read = c.before.before in weighed-less _ _ _ _ _ read.wide-held.ensures c.before.if-number-held.true c.if-firm.false
+returns-2 c = let read = c.before.before in weighed-less _ _ _ _ _ read.wide-held.ensures c.if-number-held.true c.if-firm.false
 
 returns-3 : tie.Need-returns-then-held-number
 returns-3 c = let read = c.before.before in weighed-greater _ _ _ _ _ read.wide-held.ensures c.if-held-number.true
 
 returns-4 : tie.Need-returns
-returns-4 c = let read = c.before.before in weighed-same _ _ _ _ _ read.wide-held.ensures c.before.if-number-held.false c.if-held-number.false
+returns-4 c = let read = c.before.before in weighed-same _ _ _ _ _ read.wide-held.ensures c.if-number-held.false c.if-held-number.false
 
 pub compare_spec : {M : Type 1} → statement M
 compare_spec =

@@ -20,34 +20,34 @@ abbrev decreases-loop-k : tie.decreases-loop-k
 decreases-loop-k labels₀ queue given k₀ labels k = given - k
 
 -- in a turn the next dart's place in the queue is in the array
-turn : (c : tie.In-loop-k invariant-loop-k decreases-loop-k) → c.before.loop-k.k < 1020
-turn c = omega (arith, c.before.before.requires.holds.few)
+turn : (c : tie.In-loop-k invariant-loop-k decreases-loop-k) → c.loop-k.k < 1020
+turn c = omega (arith, c.requires.holds.few)
 
 -- what is read there is the next dart
 next : (c : tie.After-wide invariant-loop-k decreases-loop-k) →
     let at-loop = c.before.before.before in
-    let a = at-loop.before.args in
+    let a = at-loop.args in
     c.wide.result ≡ nth (take a.given a.queue.now) (suc at-loop.loop-k.k)
 next c =
     let at-loop = c.before.before.before in
-    let a = at-loop.before.args in
+    let a = at-loop.args in
     c.wide.ensures
-    ∙ sym (get_or-take a.given a.queue.now at-loop.loop-k.k 0 c.before.before.loop-k-test.true)
+    ∙ sym (get_or-take a.given a.queue.now at-loop.loop-k.k 0 c.loop-k-test.true)
     ∙ sym (nth-suc (take a.given a.queue.now) at-loop.loop-k.k)
 
 -- it has a place among the labels
 inside : (c : tie.After-wide invariant-loop-k decreases-loop-k) → (1 ≤ c.wide.result) × (c.wide.result ≤ 1020)
 inside c =
     let at-loop = c.before.before.before in
-    rw (next c) (at-loop.before.requires.inside (suc at-loop.loop-k.k) (omega arith) c.before.before.loop-k-test.true)
+    rw (next c) (at-loop.requires.inside (suc at-loop.loop-k.k) (omega arith) c.loop-k-test.true)
 
 loop-again : tie.Need-loop-k-preserved invariant-loop-k decreases-loop-k
 loop-again c =
     let at_test = c.before.before in
-    forgetting_turn at_test.before.loop-k.invariant c.wide.result (next c.before) (inside c.before).0 (inside c.before).1 at_test.loop-k-test.true
+    forgetting_turn at_test.loop-k.invariant c.wide.result (next c.before) (inside c.before).0 (inside c.before).1 at_test.loop-k-test.true
 
 returns : tie.Need-returns invariant-loop-k decreases-loop-k
-returns c = forgetting_done c.before.loop-k.invariant (holds_length c.before.before.requires.holds) c.loop-k-test.false
+returns c = forgetting_done c.loop-k.invariant (holds_length c.requires.holds) c.loop-k-test.false
 
 pub forget_spec : {M : Type 1} → statement M
 forget_spec =

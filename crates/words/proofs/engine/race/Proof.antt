@@ -96,7 +96,7 @@ most : (s : Start) → s.args.rows ≤ (map_here s).darts
 unfolding map_of
 most s = s.requires.some_rows
 
-in_map : (c : tie.In-labels invariant-loop-i decreases-loop-i invariant-labels decreases-labels) → c.before.labels.k < (map_here (start c.before)).darts
+in_map : (c : tie.In-labels invariant-loop-i decreases-loop-i invariant-labels decreases-labels) → c.labels.k < (map_here (start c.before)).darts
 unfolding map_of
 in_map c = omega (arith, most (start c.before), c.labels-test.true)
 
@@ -116,7 +116,7 @@ unfolding map_of
 fits s = omega (arith, length_front s.requires.usable.taken _ s.requires.dart s.args.rows (most s), mul-le-mul_right s.args.n (most s), mul_comm s.args.m s.args.n, s.requires.usable.shaped.bounds.table_most, s.requires.long_word)
 
 -- a dart is served only where there are as many
-turn : (c : tie.In-labels invariant-loop-i decreases-loop-i invariant-labels decreases-labels) → c.before.labels.k < 1020
+turn : (c : tie.In-labels invariant-loop-i decreases-loop-i invariant-labels decreases-labels) → c.labels.k < 1020
 turn c = omega (arith, in_map c, few (start c.before))
 
 -- so a turn is one dart more
@@ -127,7 +127,7 @@ turn-of : (c : tie.In-labels invariant-loop-i decreases-loop-i invariant-labels 
     DartTurn (map_here (start l)) a.d a.rows a.firm a.word.now v.labels v.queue v.word v.labelling.given v.side v.p v.k
 turn-of c =
     let s = start c.before in
-    record { taken = s.requires.usable.taken; dart = s.requires.dart; most = most s; fits = fits s; so_far = c.before.labels.invariant; turn = c.labels-test.true }
+    record { taken = s.requires.usable.taken; dart = s.requires.dart; most = most s; fits = fits s; so_far = c.labels.invariant; turn = c.labels-test.true }
 
 -- what is read from the queue is the dart whose turn it is
 served-is : (c : Wide) →
@@ -177,26 +177,26 @@ number_of : (t : InLoop) →
     let l = (in-labels (wide_of t)).before in
     let a = (start l).args in
     let v = l.labels in
-    let u = t.before.loop-i in
+    let u = t.loop-i in
     NumberTurn (map_here (start l)) a.d a.rows a.firm a.word.now v.labels v.queue v.word v.labelling.given v.side v.p v.k u.labels u.queue u.word u.labelling.given u.side u.p u.i
 unfolding map_of
-number_of t = record { dart_turn = turn-of (in-labels (wide_of t)); so_far = t.before.loop-i.invariant; turn = t.loop-i-test.true }
+number_of t = record { dart_turn = turn-of (in-labels (wide_of t)); so_far = t.loop-i.invariant; turn = t.loop-i-test.true }
 
 -- what is read from the table is βi of the dart whose turn it is
 entry_is : (c : tie.After-wide-in-loop-i invariant-loop-i decreases-loop-i invariant-labels decreases-labels) →
     let t = in-loop c in
     let l = (in-labels (wide_of t)).before in
-    c.wide-in-loop-i.result ≡ sew (map_here (start l)) (suc t.before.loop-i.i) (turn_of (map_here (start l)) (start l).args.d l.labels.k)
+    c.wide-in-loop-i.result ≡ sew (map_here (start l)) (suc t.loop-i.i) (turn_of (map_here (start l)) (start l).args.d l.labels.k)
 unfolding map_of
 entry_is c =
     let t = in-loop c in
     let w = wide_of t in
     c.wide-in-loop-i.ensures
-    ∙ row_sew (start (in-labels w).before).requires.usable.shaped w.wide-served.result t.before.loop-i.i (served-dart w) t.loop-i-test.true
-    ∙ ap (sew _ (suc t.before.loop-i.i)) (served-is w)
+    ∙ row_sew (start (in-labels w).before).requires.usable.shaped w.wide-served.result t.loop-i.i (served-dart w) t.loop-i-test.true
+    ∙ ap (sew _ (suc t.loop-i.i)) (served-is w)
 
 -- in a turn the number's place is in the word
-place-fits : (t : InLoop) → t.before.loop-i.p < 1020
+place-fits : (t : InLoop) → t.loop-i.p < 1020
 place-fits t = omega (arith, row_place (number_of t), (start (in-labels (wide_of t)).before).requires.long_word)
 
 weigh-requires : tie.Need-weigh-side-requires invariant-loop-i decreases-loop-i invariant-labels decreases-labels
@@ -209,21 +209,21 @@ loop-again : tie.Need-loop-i-preserved invariant-loop-i decreases-loop-i invaria
 loop-again c =
     let judged = c.before in
     let m = met judged in
-    rowing_turn (number_of (in-loop m.before)) (entry_is m.before) m.meet-labelling-in-loop-i.ensures judged.before.weigh-side.ensures (sym judged.leaves.ensures ∙ c.if-leaves.false)
+    rowing_turn (number_of (in-loop m.before)) (entry_is m.before) m.meet-labelling-in-loop-i.ensures judged.weigh-side.ensures (sym judged.leaves.ensures ∙ c.if-leaves.false)
 
 labels-again : tie.Need-labels-preserved invariant-loop-i decreases-loop-i invariant-labels decreases-labels
 unfolding map_of
-labels-again c = rowing_end (turn-of (in-labels (read c.before.before.before))) c.before.loop-i.invariant c.loop-i-test.false
+labels-again c = rowing_end (turn-of (in-labels (read c.before.before.before))) c.loop-i.invariant c.loop-i-test.false
 
 returns : tie.Need-returns-after-labels invariant-loop-i decreases-loop-i invariant-labels decreases-labels
 unfolding map_of
 returns c =
     let s = start c.before in
-    let inv = c.before.labels.invariant in
+    let inv = c.labels.invariant in
     let taken = s.requires.usable.taken in
     let to_darts = taken.open_map.to_darts in
     let all = judged-all taken s.requires.dart (most s) inv c.labels-test.false in
-    let k = c.before.labels.k in
+    let k = c.labels.k in
     let last : k ≡ s.args.rows = omega (arith, inv.high, c.labels-test.false) in
     record {
       came = ended-outcome taken s.requires.dart (most s) (standing_end (fits s) (rw all at inv.stands));
@@ -241,7 +241,7 @@ returns-2 c =
     let gone = sym judged.leaves.ensures ∙ c.if-leaves.true in
     let held = row_holds (number_of t) (entry_is m.before) m.meet-labelling-in-loop-i.ensures in
     record {
-      came = ended-outcome s.requires.usable.taken s.requires.dart (most s) (rowing_left (number_of t) (entry_is m.before) m.meet-labelling-in-loop-i.ensures judged.before.weigh-side.ensures gone);
+      came = ended-outcome s.requires.usable.taken s.requires.dart (most s) (rowing_left (number_of t) (entry_is m.before) m.meet-labelling-in-loop-i.ensures judged.weigh-side.ensures gone);
       good = rw held.so_far (row_once (number_of t));
       holds = holds_own held;
       whole = λ on _. absurd (true_not_false gone on);
@@ -272,9 +272,9 @@ race_spec =
     (λ c. (served-few (read c.before)).0)
     mul-row
     loop-holds
-    (λ c. let t = c.before.before in omega (arith, row_fits (wide_of t) t.before.loop-i.i t.loop-i-test.true))
-    (λ c. let t = c.before.before in omega (arith, row_fits (wide_of t) t.before.loop-i.i t.loop-i-test.true))
-    (λ c. let t = c.before.before.before in in-the-row (wide_of t) t.before.loop-i.i t.loop-i-test.true)
+    (λ c. let t = c.before.before in omega (arith, row_fits (wide_of t) t.loop-i.i t.loop-i-test.true))
+    (λ c. let t = c.before.before in omega (arith, row_fits (wide_of t) t.loop-i.i t.loop-i-test.true))
+    (λ c. let t = c.before.before.before in in-the-row (wide_of t) t.loop-i.i t.loop-i-test.true)
     (λ c κs. search rules)
     (λ c κs. row_meets (number_of (in-loop c)) _ (entry_is c))
     weigh-requires

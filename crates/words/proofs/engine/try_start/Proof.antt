@@ -23,7 +23,7 @@ start c = c.before.before.before.before.before
 forget-requires : tie.Need-forget-requires
 unfolding map_of
 forget-requires c κs =
-    let raced = c.before.race-course.ensures in
+    let raced = c.race-course.ensures in
     let most = darts_most (start c.before).requires.usable.shaped.bounds in
     record {
       holds = raced.holds;

@@ -15,7 +15,7 @@ returns c =
     record { is_side_after = rw told; written = rw unfirm }
 
 returns-2 : tie.Need-returns-in-Same
-returns-2 c = rw c.before.before.in-Same.is c.compare.ensures
+returns-2 c = rw c.in-Same.is c.compare.ensures
 
 returns-3 : tie.Need-returns-in-Greater
 unfolding side_after is_less

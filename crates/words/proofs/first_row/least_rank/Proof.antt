@@ -74,18 +74,18 @@ loop-again : tie.Need-loop-d-preserved-then-next-least invariant-loop-d decrease
 unfolding map_of
 loop-again c =
     let r = c.before in
-    ranking-new (at-loop r).loop-d.invariant r.before.loop-d-test.true r.rank-next.ensures c.if-next-least.true
+    ranking-new (at-loop r).loop-d.invariant r.loop-d-test.true r.rank-next.ensures c.if-next-least.true
 
 loop-again-2 : tie.Need-loop-d-preserved invariant-loop-d decreases-loop-d
 unfolding map_of
 loop-again-2 c =
     let r = c.before in
-    ranking-kept (at-loop r).loop-d.invariant r.before.loop-d-test.true r.rank-next.ensures c.if-next-least.false
+    ranking-kept (at-loop r).loop-d.invariant r.loop-d-test.true r.rank-next.ensures c.if-next-least.false
 
 returns : tie.Need-returns invariant-loop-d decreases-loop-d
 unfolding map_of
 returns c =
-    let k = c.before.loop-d.invariant in
+    let k = c.loop-d.invariant in
     record {
       start = k.start;
       dart = k.dart;

@@ -29,5 +29,5 @@ passed_over_spec =
     (λ c. omega (arith, inside c.before.before))
     (λ c κs. search rules)
     (λ c. over_passes _ _ _ _ (omega (arith, read c.before, c.if-wide-ne0.true)))
-    (λ c κs. c.before.before.before.before.requires)
-    (λ c. ap (ltb _) c.rank.ensures ∙ rank_passes _ _ _ _ (omega (arith, read c.before.before, c.before.if-wide-ne0.false))))
+    (λ c κs. c.requires)
+    (λ c. ap (ltb _) c.rank.ensures ∙ rank_passes _ _ _ _ (omega (arith, read c.before.before, c.if-wide-ne0.false))))

@@ -66,7 +66,7 @@ first : (c : tie.After-first_label-first) →
 first c =
     let s = start c in
     c.first_label-first.ensures
-    ∙ ap₂ (first_label s.args.d) (c.before.before.before.wide.ensures ∙ back_read (given s) s.requires) (c.before.wide-2.ensures ∙ next-read (given s) s.requires)
+    ∙ ap₂ (first_label s.args.d) (c.wide.ensures ∙ back_read (given s) s.requires) (c.wide-2.ensures ∙ next-read (given s) s.requires)
 
 -- twice the first number fits
 first_fits : (c : tie.After-first_label-first) → c.first_label-first.result ≤ 3

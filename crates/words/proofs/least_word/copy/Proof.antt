@@ -15,19 +15,19 @@ loop-holds : tie.Need-loop-i-init invariant-loop-i decreases-loop-i
 loop-holds c = shown_start _ _ _
 
 slice-write-output : tie.Need-bounds-output-i invariant-loop-i decreases-loop-i
-slice-write-output c = omega (arith, c.before.before.loop-i.invariant.long)
+slice-write-output c = omega (arith, c.loop-i.invariant.long)
 
 loop-again : tie.Need-loop-i-preserved invariant-loop-i decreases-loop-i
 loop-again c =
     let at-loop = c.before.before in
-    let pre = at-loop.before.requires in
-    shown_turn at-loop.loop-i.invariant (rw pre.long pre.few) pre.room c.before.loop-i-test.true
+    let pre = at-loop.requires in
+    shown_turn at-loop.loop-i.invariant (rw pre.long pre.few) pre.room c.loop-i-test.true
 
 same_length : tie.Need-shape_of-output invariant-loop-i decreases-loop-i
-same_length c = c.before.loop-i.invariant.long
+same_length c = c.loop-i.invariant.long
 
 returns : tie.Need-returns invariant-loop-i decreases-loop-i
-returns c = record { written = shown_done c.before.loop-i.invariant c.loop-i-test.false }
+returns c = record { written = shown_done c.loop-i.invariant c.loop-i-test.false }
 
 pub copy_spec : {M : Type 1} → statement M
 copy_spec =

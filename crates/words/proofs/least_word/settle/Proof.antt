@@ -22,12 +22,11 @@ written_over {m = m} {queue = queue} p is =
 join-all-requires : tie.Need-join_all-requires
 unfolding is_same
 join-all-requires c κs =
-    let told = c.before.before in
-    told.before.before.requires.joins (rw told.in-Same.is refl)
+    c.requires.joins (rw c.in-Same.is refl)
 
 copy-requires : tie.Need-copy-requires
 copy-requires c κs =
-    let p = c.before.before.requires in
+    let p = c.requires in
     record { few = p.few; room = omega (arith, p.few, p.long_lead); long = p.long_queue }
 
 returns : tie.Need-returns-in-Less
@@ -35,12 +34,12 @@ unfolding started_at is_less is_same
 returns c =
     let e = c.before.before in
     let told = e.in-Less.is in
-    record { started = rw told; leads = rw told (written_over e.before.requires c.copy.ensures.written); trees = rw told }
+    record { started = rw told; leads = rw told (written_over e.requires c.copy.ensures.written); trees = rw told }
 
 returns-2 : tie.Need-returns-in-Same
 unfolding started_at is_less is_same
 returns-2 c =
-    let told = c.before.before.in-Same.is in
+    let told = c.in-Same.is in
     record { started = rw told; leads = rw told; trees = c.join_all.ensures ∙ rw told }
 
 returns-3 : tie.Need-returns-in-Greater

@@ -31,7 +31,7 @@ told c = c.before.before.before.before
 returns : tie.Need-returns-in-Refused
 returns c =
     let judged = c.before in
-    signed_refused _ (start judged).args.output.now _ _ (sym c.before.in-Refused.is ∙ judged.judge-judged.ensures.answer.verdict)
+    signed_refused _ (start judged).args.output.now _ _ (sym c.in-Refused.is ∙ judged.judge-judged.ensures.answer.verdict)
 
 -- the table and the output are accepted
 accepting : (c : tie.In_default) →
@@ -51,7 +51,7 @@ run-requires c κs =
     record {
       usable = judged_usable _ _ judged (accepting t);
       blank = judged.blank;
-      above = c.before.before.blank.ensures;
+      above = c.blank.ensures;
     }
 
 copy-requires : tie.Need-copy-requires
@@ -81,7 +81,7 @@ signature_spec =
     (λ c. search rules)
     (λ c κs. search rules)
     run-requires
-    (λ c. omega (arith, (shaped (told c.before.before.before)).bounds.table_most))
+    (λ c. omega (arith, (shaped (told c.before.before)).bounds.table_most))
     copy-requires
     (λ c. search rules)
     returns-2)

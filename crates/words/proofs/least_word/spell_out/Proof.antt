@@ -56,7 +56,7 @@ spelt-already {g} {held = held} {s = s} {rows = rows} p all =
 
 try-start-requires : tie.Need-try_start-requires
 try-start-requires c κs =
-    let r = c.before.before.before.before.before.requires.ready in
+    let r = c.requires.ready in
     record {
       usable = r.usable;
       dart = r.dart;
@@ -69,10 +69,10 @@ try-start-requires c κs =
 returns : tie.Need-returns-then-rows-m
 returns c =
     let t = c.before.before.before.before in
-    spelt-out t.before.before.requires t.if-rows-m.true c.try_start.ensures
+    spelt-out t.requires t.if-rows-m.true c.try_start.ensures
 
 returns-2 : tie.Need-returns-else-rows-m
-returns-2 c = spelt-already c.before.before.requires c.if-rows-m.false
+returns-2 c = spelt-already c.requires c.if-rows-m.false
 
 pub spell_out_spec : {M : Type 1} → statement M
 spell_out_spec = tie.close (tie.spec try-start-requires returns returns-2)

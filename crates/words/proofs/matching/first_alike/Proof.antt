@@ -53,7 +53,7 @@ unfolding map_of
 try-start-requires c κs =
     let t = c.before.before.before in
     let s = start t.before in
-    let y = t.before.loop-d.invariant in
+    let y = t.loop-d.invariant in
     seeks_ready s.requires (y.low, t.loop-d-test.true) y.blank y.long_queue y.firm
 
 -- whether the start yields the word held
@@ -81,7 +81,7 @@ returns c =
     let hit = yielded c.before ∙ c.if-alike.true in
     record {
       found = sym (least_is _ _ (passed_found _ inv.so_far inv.low (omega arith) hit));
-      whole = λ some. done.whole (same_stays true (tried c.before).try_start-side.result (sym c.before.alike.ensures ∙ c.if-alike.true)) refl;
+      whole = λ some. done.whole (same_stays true (tried c.before).try_start-side.result (sym c.alike.ensures ∙ c.if-alike.true)) refl;
       long_queue = done.long_queue;
     }
 
@@ -103,7 +103,7 @@ loop-again c =
 returns-2 : tie.Need-returns invariant-loop-d decreases-loop-d
 unfolding map_of
 returns-2 c =
-    let inv = c.before.loop-d.invariant in
+    let inv = c.loop-d.invariant in
     record {
       found = sym (none_least _ _ (passed_misses _ inv.so_far c.loop-d-test.false));
       whole = λ some. absurd (omega arith);

@@ -130,7 +130,7 @@ returns : tie.Need-returns-in-Refused
 returns c =
     let j = c.before in
     let s = start j in
-    let is = sym c.before.in-Refused.is ∙ j.judge-first.ensures.answer.verdict in
+    let is = sym c.in-Refused.is ∙ j.judge-first.ensures.answer.verdict in
     let v = table_answer (output.Images (room s)) (first s) in
     let same = refused_is v _ _ is in
     matches_refused _ _ (refused_low v _ _ is) (match_first (first s) (second s) (room s) (refused-accepts v _ _ is) ∙ same)
@@ -150,12 +150,12 @@ try-start-requires c κs =
     }
 
 -- a refusal of the second map has a number up to 9
-add-fits : tie.Need-overflow_add-t31
+add-fits : tie.Need-overflow_add-result
 unfolding CheckNumbers check_answer refused
 add-fits c =
-    let j = c.before.before.before in
+    let j = c.before in
     let v = check_answer (second (from j)) in
-    let is = sym c.before.in-Refused-second.is ∙ j.judge-second.ensures.answer.verdict in
+    let is = sym c.in-Refused-second.is ∙ j.judge-second.ensures.answer.verdict in
     let number = ap (λ (w : Verdict). w.number) (refused_is v _ _ is) in
     omega (arith, number, (check_numbers (second (from j))).0)
 
@@ -165,7 +165,7 @@ returns-2 c =
     let j = c.before in
     let s = from j in
     let v = check_answer (second s) in
-    let is = sym c.before.in-Refused-second.is ∙ j.judge-second.ensures.answer.verdict in
+    let is = sym c.in-Refused-second.is ∙ j.judge-second.ensures.answer.verdict in
     let same = refused_is v _ _ is in
     let answer = match_second (first s) (second s) (room s) (accepting (told (ran j))) (refused-accepts v _ _ is) in
     matches_refused _ _ (omega arith) (answer ∙ ap (λ (w : Verdict). refused (20 + w.number) w.place) same)
@@ -189,7 +189,7 @@ cleared t = match_clear _ _ _ (table_whole _ _ (accepting (told (ran (judged2 t)
 -- what the first run has left
 spelt-here : (t : tie.In_default-second) →
     let r = ran (judged2 t) in
-    Spelt (first (from (judged2 t))) r.try_start.last.1.1.1.1.1.0 r.try_start.last.1.1.1.1.1.1.0
+    Spelt (first (from (judged2 t))) r.try_start.new.queue r.try_start.new.word
 spelt-here t = spelt (cleared t).first (ran (judged2 t)).try_start.ensures
 
 first-alike-requires : tie.Need-first_alike-image-requires
@@ -211,19 +211,19 @@ unfolding image_of_first map_of
 image-is c =
     let t = told2 c in
     let s = from (judged2 t) in
-    let n-same = c.before.before.before.before.before.before.if-n-n2.false in
-    let m-same = c.before.before.before.before.before.if-m-m2.false in
+    let n-same = c.if-n-n2.false in
+    let m-same = c.if-m-m2.false in
     c.first_alike-image.ensures.found
     ∙ ap (λ (w : List ℕ). least s.args.m2 (yields (map_of (second s)) w))
-    (ap (λ (k : ℕ). take k (ran (judged2 t)).try_start.new.1.1.1.1.1.1.0) (sym (ap₂ (λ (x y : ℕ). x * y) n-same m-same)) ∙ (spelt-here t).numbers)
+    (ap (λ (k : ℕ). take k (ran (judged2 t)).try_start.new.word) (sym (ap₂ (λ (x y : ℕ). x * y) n-same m-same)) ∙ (spelt-here t).numbers)
 
 returns-5 : tie.Need-returns-then-image-eq0
 returns-5 c =
     let f = c.before in
     let t = told2 f in
     let s = from (judged2 t) in
-    let n-same = f.before.before.before.before.before.before.if-n-n2.false in
-    let m-same = f.before.before.before.before.before.if-m-m2.false in
+    let n-same = f.if-n-n2.false in
+    let m-same = f.if-m-m2.false in
     matches_refused 10 0 (omega arith)
     (match_none (first s) (second s) (room s) (accepting (told (ran (judged2 t)))) (accepting2 t) n-same m-same (sym (image-is f) ∙ c.if-image-eq0.true))
 
@@ -248,9 +248,9 @@ returns-6 c =
     let f = sought shows in
     let t = told2 f in
     let s = from (judged2 t) in
-    let n-same = f.before.before.before.before.before.before.if-n-n2.false in
-    let m-same = f.before.before.before.before.before.if-m-m2.false in
-    let found = pos_of_ne-zero shows.before.before.before.before.if-image-eq0.false in
+    let n-same = f.if-n-n2.false in
+    let m-same = f.if-m-m2.false in
+    let found = pos_of_ne-zero shows.if-image-eq0.false in
     let some : 0 < image_of_first (map_of (first s)) (map_of (second s)) = rw (image-is f) at found in
     matches_passed
     (match_passed (first s) (second s) (room s) (accepting (told (ran (judged2 t)))) (accepting2 t) n-same m-same some)

@@ -136,18 +136,18 @@ in-loop c = c.before.before.before.before.before
 read-dart : (c : tie.After-wide invariant-loop-k decreases-loop-k) → (1 ≤ c.wide.result) × (c.wide.result ≤ (start (in-loop c).before).args.m)
 read-dart c =
     let t = in-loop c in
-    dart (start t.before).requires t.before.loop-k.invariant t.loop-k-test.true c.wide.result c.wide.ensures
+    dart (start t.before).requires t.loop-k.invariant t.loop-k-test.true c.wide.result c.wide.ensures
 
 loop-again : tie.Need-loop-k-preserved invariant-loop-k decreases-loop-k
 loop-again c =
     let t = in-loop c in
-    showing-turn (start t.before).requires t.before.loop-k.invariant t.loop-k-test.true c.wide.result c.wide.ensures
+    showing-turn (start t.before).requires t.loop-k.invariant t.loop-k-test.true c.wide.result c.wide.ensures
 
 returns : tie.Need-returns invariant-loop-k decreases-loop-k
 returns c =
     let s = start c.before in
-    let inv = c.before.loop-k.invariant in
-    let all : c.before.loop-k.k ≡ s.args.m = omega (arith, inv.high, c.loop-k-test.false) in
+    let inv = c.loop-k.invariant in
+    let all : c.loop-k.k ≡ s.args.m = omega (arith, inv.high, c.loop-k-test.false) in
     record { written = showing-done s.requires (rw all at inv) }
 
 pub show_spec : {M : Type 1} → statement M
@@ -156,7 +156,7 @@ show_spec =
     (tie.spec
     invariant-loop-k
     decreases-loop-k
-    (λ c. showing-start c.before.requires)
+    (λ c. showing-start c.requires)
     (λ c. omega arith)
     (λ c. omega arith)
     (λ c. omega arith)
@@ -168,5 +168,5 @@ show_spec =
     (λ c. omega arith)
     (λ c. omega arith)
     loop-again
-    (λ c. c.before.loop-k.invariant.long)
+    (λ c. c.loop-k.invariant.long)
     returns)

@@ -31,41 +31,41 @@ abbrev start : tie.After-top-second → tie.Start
 start c = c.before.before
 
 -- the tops have their places in the array
-first_top : (c : tie.After-top-second) → Placed c.before.top-first.result
-first_top c = let s = start c in rw c.before.top-first.ensures (top_of_placed s.requires.forest s.requires.first)
+first_top : (c : tie.After-top-second) → Placed c.top-first.result
+first_top c = let s = start c in rw c.top-first.ensures (top_of_placed s.requires.forest s.requires.first)
 
 second_top : (c : tie.After-top-second) → Placed c.top-second.result
 second_top c = let s = start c in rw c.top-second.ensures (top_of_placed s.requires.forest s.requires.second)
 
 returns : tie.Need-returns-then-first-second
 unfolding hang
-returns c = let t = c.before in second-under _ _ _ _ _ t.before.before.top-first.ensures t.top-second.ensures c.if-first-second.true
+returns c = let t = c.before in second-under _ _ _ _ _ t.top-first.ensures t.top-second.ensures c.if-first-second.true
 
 returns-2 : tie.Need-returns-then-second-first
 unfolding hang
 returns-2 c =
     let t = c.before.before in
-    first_under _ _ _ _ _ t.before.before.top-first.ensures t.top-second.ensures c.before.if-first-second.false c.if-second-first.true
+    first_under _ _ _ _ _ t.top-first.ensures t.top-second.ensures c.if-first-second.false c.if-second-first.true
 
 returns-3 : tie.Need-returns-else-second-first
 returns-3 c =
     let t = c.before.before in
-    none-under _ _ _ _ _ t.before.top-first.ensures t.top-second.ensures c.before.if-first-second.false c.if-second-first.false
+    none-under _ _ _ _ _ t.top-first.ensures t.top-second.ensures c.if-first-second.false c.if-second-first.false
 
 pub join_spec : {M : Type 1} → statement M
 join_spec =
     tie.close
     (tie.spec
-    (λ c κs. record { forest = c.before.requires.forest; placed = c.before.requires.first })
-    (λ c κs. let s = c.before.before.before in record { forest = s.requires.forest; placed = s.requires.second })
+    (λ c κs. record { forest = c.requires.forest; placed = c.requires.first })
+    (λ c κs. let s = c.before in record { forest = s.requires.forest; placed = s.requires.second })
     (λ c. omega (arith, (first_top c.before).high))
     (λ c. (second_top c.before).low)
     (λ c. omega (arith, (second_top c.before).low, (second_top c.before).high))
-    (λ c. omega (arith, (second_top c.before).low, (second_top c.before).high))
+    (λ c. omega (arith, (second_top c.before.before).low, (second_top c.before.before).high))
     returns
     (λ c. omega (arith, (second_top c.before.before).high))
     (λ c. (first_top c.before.before).low)
     (λ c. omega (arith, (first_top c.before.before).low, (first_top c.before.before).high))
-    (λ c. omega (arith, (first_top c.before.before).low, (first_top c.before.before).high))
+    (λ c. omega (arith, (first_top c.before.before.before).low, (first_top c.before.before.before).high))
     returns-2
     returns-3)

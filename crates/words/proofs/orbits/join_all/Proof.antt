@@ -56,33 +56,33 @@ abbrev in-loop : tie.After-wide-in-loop-k invariant-loop-k decreases-loop-k → 
 in-loop c = c.before.before.before.before.before.before.before
 
 -- a turn's place is in the arrays
-turn : (c : tie.In-loop-k invariant-loop-k decreases-loop-k) → c.before.loop-k.k < 1020
+turn : (c : tie.In-loop-k invariant-loop-k decreases-loop-k) → c.loop-k.k < 1020
 turn c = omega (arith, (start c).requires.few, c.loop-k-test.true)
 
 -- the darts read stand at that place
 first_read : (c : tie.After-wide-in-loop-k invariant-loop-k decreases-loop-k) →
     let t = in-loop c in
-    c.before.before.wide.result ≡ nth (start t).args.queue.now (suc t.before.loop-k.k)
-first_read c = c.before.before.wide.ensures ∙ sym (nth-suc _ _)
+    c.wide.result ≡ nth (start t).args.queue.now (suc t.loop-k.k)
+first_read c = c.wide.ensures ∙ sym (nth-suc _ _)
 
 second-read : (c : tie.After-wide-in-loop-k invariant-loop-k decreases-loop-k) →
     let t = in-loop c in
-    c.wide-in-loop-k.result ≡ nth (start t).args.lead.now (suc t.before.loop-k.k)
+    c.wide-in-loop-k.result ≡ nth (start t).args.lead.now (suc t.loop-k.k)
 second-read c = c.wide-in-loop-k.ensures ∙ sym (nth-suc _ _)
 
 join-requires : tie.Need-join-requires invariant-loop-k decreases-loop-k
 join-requires c κs =
     let t = in-loop c in
-    joining-joins (start t).requires t.before.loop-k.invariant t.loop-k-test.true (first_read c) (second-read c)
+    joining-joins (start t).requires t.loop-k.invariant t.loop-k-test.true (first_read c) (second-read c)
 
 loop-again : tie.Need-loop-k-preserved invariant-loop-k decreases-loop-k
 loop-again c =
     let w = c.before in
     let t = in-loop w in
-    joining-turn (start t).requires t.before.loop-k.invariant t.loop-k-test.true (first_read w) (second-read w) c.join.ensures
+    joining-turn (start t).requires t.loop-k.invariant t.loop-k-test.true (first_read w) (second-read w) c.join.ensures
 
 returns : tie.Need-returns invariant-loop-k decreases-loop-k
-returns c = joining-done c.before.loop-k.invariant c.loop-k-test.false
+returns c = joining-done c.loop-k.invariant c.loop-k-test.false
 
 pub join_all_spec : {M : Type 1} → statement M
 join_all_spec =
@@ -92,10 +92,10 @@ join_all_spec =
     decreases-loop-k
     (λ c. record { high = omega arith; so_far = sym (joined_all_zero _ _ _) })
     (λ c. omega (arith, turn c.before))
-    (λ c. turn c.before)
+    (λ c. turn c.before.before)
     (λ c κs. search rules)
-    (λ c. omega (arith, turn c.before.before.before))
-    (λ c. turn c.before.before.before)
+    (λ c. omega (arith, turn c.before.before.before.before))
+    (λ c. turn c.before.before.before.before.before)
     (λ c κs. search rules)
     join-requires
     (λ c. omega (arith, turn (in-loop c.before)))

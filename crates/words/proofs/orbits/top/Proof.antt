@@ -51,7 +51,7 @@ loop-holds c =
     record { placed = s.requires.placed; over = c.wide-above.ensures ∙ sym (nth_at _ _ s.requires.placed.low); one-top = refl }
 
 -- the dart over another has its place in the array
-above-placed : (c : tie.In-loop-above invariant-loop-above decreases-loop-above) → Placed c.before.loop-above.above
+above-placed : (c : tie.In-loop-above invariant-loop-above decreases-loop-above) → Placed c.loop-above.above
 above-placed c =
     let l = c.before in
     (climbing-turn (start l).requires.forest l.loop-above.invariant c.loop-above-test.true refl).placed
@@ -59,11 +59,11 @@ above-placed c =
 loop-again : tie.Need-loop-above-preserved invariant-loop-above decreases-loop-above
 loop-again c =
     let t = c.before.before in
-    climbing-turn (start t.before.before).requires.forest t.before.loop-above.invariant t.loop-above-test.true (read c)
+    climbing-turn (start t.before.before).requires.forest t.loop-above.invariant t.loop-above-test.true (read c)
 
 returns : tie.Need-returns invariant-loop-above decreases-loop-above
 returns c =
-    let inv = c.before.loop-above.invariant in
+    let inv = c.loop-above.invariant in
     sym (top_of_top _ _ (sym inv.over ∙ c.loop-above-test.false)) ∙ inv.one-top
 
 pub top_spec : {M : Type 1} → statement M

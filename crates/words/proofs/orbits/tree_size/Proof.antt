@@ -10,6 +10,7 @@ use Rattle.maps.specs.Least.{count}
 use Rattle.maps.proofs.Least.{count_le, count_hit, count_miss}
 use Rattle.words.specs.Forest.{top_of, Placed}
 use Rattle.words.proofs.orbits.tree_size.Statement.{statement}
+use Rattle.words.proofs.orbits.tree_size.Lts.{then-top-start, else-top-start}
 use Rattle.words.proofs.orbits.tree_size.Tie as tie
 
 -- the darts below d are counted
@@ -57,17 +58,20 @@ abbrev decreases-loop-d : tie.decreases-loop-d
 decreases-loop-d up m start size₀ d₀ size d = m + 1 - d
 
 -- a dart that is counted has its place in the array
-placed : (c : tie.In-loop-d invariant-loop-d decreases-loop-d) → Placed c.before.loop-d.d
-placed c = record { low = c.before.loop-d.invariant.low; high = omega (arith, c.before.before.requires.few, c.loop-d-test.true) }
+placed : (c : tie.In-loop-d invariant-loop-d decreases-loop-d) → Placed c.loop-d.d
+placed c = record { low = c.loop-d.invariant.low; high = omega (arith, c.requires.few, c.loop-d-test.true) }
 
 loop-again : tie.Need-loop-d-preserved invariant-loop-d decreases-loop-d
 loop-again c =
     let t = c.before in
-    counting-turn t.before.before.loop-d.invariant t.before.loop-d-test.true
-    (⊎_elim (λ h. inl (sym t.top.ensures ∙ h.0.taken, h.1)) (λ h. inr ((λ z. h.0.left (t.top.ensures ∙ z)), h.1)) c.if-top-start.branch)
+    counting-turn t.loop-d.invariant t.loop-d-test.true
+    (elim c.if-top-start.branch [
+      | then-top-start w ↦ inl (sym t.top.ensures ∙ w.if-top-start.true, w.size-is)
+      | else-top-start w ↦ inr ((λ z. w.if-top-start.false (t.top.ensures ∙ z)), w.size-is)
+    ])
 
 returns : tie.Need-returns invariant-loop-d decreases-loop-d
-returns c = counting-done c.before.loop-d.invariant c.loop-d-test.false
+returns c = counting-done c.loop-d.invariant c.loop-d-test.false
 
 pub tree_size_spec : {M : Type 1} → statement M
 tree_size_spec =
@@ -77,7 +81,7 @@ tree_size_spec =
     decreases-loop-d
     (λ c. counting-start)
     (λ c κs. let s = c.before.before in record { forest = s.requires.forest; placed = placed c })
-    (λ c. omega (arith, counted-few c.before.before.before.loop-d.invariant, (placed c.before.before).high))
+    (λ c. omega (arith, counted-few c.loop-d.invariant, (placed c.before.before).high))
     (λ c. omega (arith, (placed c.before.before).high))
     (λ c. omega arith)
     loop-again

@@ -25,7 +25,7 @@ write_word c =
 loop-again : tie.Need-loop-i-preserved invariant-loop-i decreases-loop-i
 loop-again c =
     let l = c.before.before.before in
-    shown_turn l.loop-i.invariant (omega arith) (omega (arith, (start l).requires.0, (start l).requires.1)) c.before.loop-i-test.true
+    shown_turn l.loop-i.invariant (omega arith) (omega (arith, (start l).requires.0, (start l).requires.1)) c.loop-i-test.true
 
 returns : tie.Need-returns invariant-loop-i decreases-loop-i
 returns c =

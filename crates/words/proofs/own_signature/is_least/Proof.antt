@@ -121,18 +121,18 @@ abbrev given : tie.At-loop-d invariant-loop-d decreases-loop-d → Given
 given c = let a = (start c).args in lent a.n a.m a.table.now
 
 -- the start of a turn is a dart
-dart : (c : tie.In-loop-d invariant-loop-d decreases-loop-d) → IsDart (map_of (given c.before)) (c.before.loop-d.d + 1)
+dart : (c : tie.In-loop-d invariant-loop-d decreases-loop-d) → IsDart (map_of (given c.before)) (c.loop-d.d + 1)
 unfolding map_of
 dart c = (omega arith, omega (arith, c.loop-d-test.true))
 
 -- how a start came out
 not-less : (c : tie.After-alike invariant-loop-d decreases-loop-d) → is_less (tried c).try_start-side.result ≡ false
-not-less c = let b = c.before.before in sym b.below.ensures ∙ c.before.if-below.false
+not-less c = let b = c.before.before in sym b.below.ensures ∙ c.if-below.false
 
 rank-requires : tie.Need-rank-first-requires invariant-loop-d decreases-loop-d
 unfolding map_of
 rank-requires c κs =
-    let s = c.before.requires.seeks in
+    let s = c.requires.seeks in
     record { usable = s.usable; dart = (omega arith, s.usable.taken.bounds.darts_least) }
 
 loop-holds : tie.Need-loop-d-init invariant-loop-d decreases-loop-d
@@ -159,12 +159,12 @@ loop-again c =
     let o = c.before in
     let i = o.before.before in
     let l = i.before in
-    trying_passed (start l).requires l.loop-d.invariant refl (dart i) l.before.rank-first.ensures (sym o.passed_over.ensures ∙ c.if-passed_over.true)
+    trying_passed (start l).requires l.loop-d.invariant refl (dart i) l.rank-first.ensures (sym o.passed_over.ensures ∙ c.if-passed_over.true)
 
 try-start-requires : tie.Need-try_start-side-requires invariant-loop-d decreases-loop-d
 try-start-requires c κs =
     let t = c.before.before.before.before.before.before in
-    let y = t.before.loop-d.invariant in
+    let y = t.loop-d.invariant in
     seeks_ready (start t.before).requires.seeks (dart t) y.blank y.long_queue y.firm
 
 returns : tie.Need-returns-then-below invariant-loop-d decreases-loop-d
@@ -178,20 +178,19 @@ returns c =
 
 -- a start that is tied
 level : (c : tie.Then-alike invariant-loop-d decreases-loop-d) → is_same (tried c.before).try_start-side.result ≡ true
-level c = sym c.before.alike.ensures ∙ c.if-alike.true
+level c = sym c.alike.ensures ∙ c.if-alike.true
 
 join-all-requires : tie.Need-join_all-requires invariant-loop-d decreases-loop-d
 join-all-requires c κs =
-    let e = c.before in
-    let t = tried e in
+    let t = tried c.before.before in
     let i = in-loop t in
     let l = i.before in
-    joins (given l) (start l).requires l.loop-d.invariant refl (dart i) t.try_start-side.ensures (level e)
+    joins (given l) (start l).requires l.loop-d.invariant refl (dart i) t.try_start-side.ensures (level c.before)
 
 loop-again-2 : tie.Need-loop-d-preserved-then-alike invariant-loop-d decreases-loop-d
 loop-again-2 c =
     let e = c.before.before in
-    let t = tried e in
+    let t = tried e.before in
     let i = in-loop t in
     let l = i.before in
     trying_turn (given l) (start l).requires l.loop-d.invariant refl (dart i) t.try_start-side.ensures

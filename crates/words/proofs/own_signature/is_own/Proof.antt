@@ -60,7 +60,7 @@ given s = lent s.args.n s.args.m s.args.table.now
 
 hold-requires : tie.Need-hold-requires
 hold-requires c κs =
-    let s = c.before.before.requires.usable.shaped in
+    let s = c.requires.usable.shaped in
     (omega (arith, s.long, s.bounds.table_most), length-replicate {A = ℕ} 1020 0)
 
 try-start-requires : tie.Need-try_start-first-requires

@@ -36,8 +36,7 @@ accepting c = unlent c
 returns : tie.Need-returns-in-Refused
 unfolding check_answer
 returns c =
-    let j = c.before.before.before in
-    own_refused _ _ _ (sym c.before.in-Refused.is ∙ j.judge-judged.ensures.answer.verdict)
+    own_refused _ _ _ (sym c.in-Refused.is ∙ c.judge-judged.ensures.answer.verdict)
 
 is-own-requires : tie.Need-is_own-requires
 is-own-requires c κs =
@@ -46,10 +45,10 @@ is-own-requires c κs =
     record { usable = judged_usable output.Nothing _ answer (unlent t); blank = answer.blank }
 
 returns-2 : tie.Need-returns-then-is_own
-returns-2 c = own_told _ (accepting (told c.before)) true (sym c.if-is_own.true ∙ c.before.is_own.ensures)
+returns-2 c = own_told _ (accepting (told c.before)) true (sym c.if-is_own.true ∙ c.is_own.ensures)
 
 returns-3 : tie.Need-returns
-returns-3 c = own_told _ (accepting (told c.before)) false (sym c.if-is_own.false ∙ c.before.is_own.ensures)
+returns-3 c = own_told _ (accepting (told c.before)) false (sym c.if-is_own.false ∙ c.is_own.ensures)
 
 pub own_word_spec : {M : Type 1} → statement M
 own_word_spec = tie.close (tie.spec (λ c κs. search rules) (λ c. search rules) returns (λ c. search rules) is-own-requires returns-2 returns-3)

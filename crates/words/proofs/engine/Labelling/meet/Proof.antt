@@ -30,7 +30,7 @@ module _ {labels queue : List ℕ} {given : ℕ} {q : List ℕ} (h : Holds label
 
 -- what is read is the dart's label
 label : (c : tie.After-wide-held) →
-    let a = c.before.before.before.args in
+    let a = c.args in
     c.wide-held.result ≡ label_in (take a.self.given a.queue.now) a.e
 label c =
     let start = c.before.before.before in
@@ -38,16 +38,16 @@ label c =
 
 -- where 0 stands in the array, the dart has no label
 unlabelled : (c : tie.Else-held-ne0) →
-    let a = c.before.before.before.before.args in
+    let a = c.args in
     label_in (take a.self.given a.queue.now) a.e ≡ 0
 unlabelled c = sym (label c.before) ∙ c.if-held-ne0.false
 
 -- then there is room for it
-room : (c : tie.Else-held-ne0) → c.before.before.before.before.args.self.given < 1020
-room c = c.before.before.before.before.requires.room (omega arith) (unlabelled c)
+room : (c : tie.Else-held-ne0) → c.args.self.given < 1020
+room c = c.requires.room (omega arith) (unlabelled c)
 
 returns : tie.Need-returns-then-e-eq0
-returns c = met-nothing c.before.requires.holds _ c.before.requires.none c.if-e-eq0.true
+returns c = met-nothing c.requires.holds _ c.requires.none c.if-e-eq0.true
 
 returns-2 : tie.Need-returns-then-held-ne0
 returns-2 c =

@@ -52,7 +52,7 @@ abbrev given : tie.At-loop-d invariant-loop-d decreases-loop-d → Given
 given c = let a = (start c).args in lent a.n a.m a.table.now
 
 -- the start of a turn is a dart
-start-in : (c : tie.In-loop-d invariant-loop-d decreases-loop-d) → c.before.loop-d.d + 1 ≤ (start c.before).args.m
+start-in : (c : tie.In-loop-d invariant-loop-d decreases-loop-d) → c.loop-d.d + 1 ≤ (start c.before).args.m
 start-in c = omega (arith, c.loop-d-test.true)
 
 -- so a turn is one start more
@@ -116,7 +116,7 @@ unfolding map_of
 try-start-requires c κs =
     let i = c.before.before.before.before.before.before in
     let s = start i.before in
-    let y = i.before.loop-d.invariant in
+    let y = i.loop-d.invariant in
     record {
       usable = s.requires.usable;
       dart = (omega arith, start-in i);
@@ -133,7 +133,7 @@ kept-start : (c : tie.After-try_start-side invariant-loop-d decreases-loop-d) �
 kept-start c =
     let l = (in-loop c).before in
     let e = c.before.before.before.before in
-    let free = not_passed _ _ _ _ (sym e.before.passed_over.ensures ∙ e.if-passed_over.false) in
+    let free = not_passed _ _ _ _ (sym e.passed_over.ensures ∙ e.if-passed_over.false) in
     (free.0, omega (arith, free.1, (ranks-of l).least_rank-least.ensures.none_less _ (turn_dart (turn-of (in-loop c)))))
 
 -- a start that agrees with all rows that are known, where some are not
@@ -142,7 +142,7 @@ open-rows : (c : tie.Then-agrees invariant-loop-d decreases-loop-d) →
     let l = (in-loop t).before in
     (is_same t.try_start-side.result ≡ true) × (l.loop-d.rows < (start l).args.m)
 open-rows c =
-    let both = both_true _ _ (sym c.before.agrees.ensures ∙ c.if-agrees.true) in
+    let both = both_true _ _ (sym c.agrees.ensures ∙ c.if-agrees.true) in
     (both.0, ltb-true _ _ both.1)
 
 -- otherwise a start that is the same is so in all rows
@@ -160,7 +160,7 @@ decided : (c : tie.Else-agrees invariant-loop-d decreases-loop-d) →
 unfolding map_of
 decided c =
     let l = (in-loop (tried c.before)).before in
-    all-rows _ _ _ l.loop-d.invariant.rows_high (sym c.before.agrees.ensures ∙ c.if-agrees.false)
+    all-rows _ _ _ l.loop-d.invariant.rows_high (sym c.agrees.ensures ∙ c.if-agrees.false)
 
 spell-out-requires : tie.Need-spell_out-requires invariant-loop-d decreases-loop-d
 unfolding map_of
@@ -264,7 +264,7 @@ run_spec =
     (tie.spec
     invariant-loop-d
     decreases-loop-d
-    (λ c κs. c.before.requires.usable)
+    (λ c κs. c.requires.usable)
     (λ c κs. search rules)
     loop-holds
     (λ c. omega (arith, start-in c, darts_most (start c.before).requires.usable.shaped.bounds))
@@ -280,5 +280,5 @@ run_spec =
     (λ c. omega arith)
     loop-again-3
     spell-out-requires-2
-    (λ c κs. let s = start c.before.before.before.before.before.before in record { forest = c.before.before.before.before.before.before.loop-d.invariant.best.kin.forest; few = darts_most s.requires.usable.shaped.bounds })
+    (λ c κs. let s = start c.before.before.before.before.before.before in record { forest = c.loop-d.invariant.best.kin.forest; few = darts_most s.requires.usable.shaped.bounds })
     returns)

@@ -12,30 +12,28 @@ use Rattle.matches.proofs.Inside.{second_passed, second_refused}
 use Rattle.matches.proofs.check_second.Statement.{statement}
 use Rattle.matches.proofs.check_second.Tie as tie
 
-returns : tie.Need-returns
-returns c = second_passed _ (sym c.enum_told.given.1 ∙ c.before.before.check.ensures)
+returns : tie.Need-returns-in_default
+returns c = second_passed _ (sym c.in_default.is ∙ c.check-judged.ensures)
 
 -- the number of a refusal is small
-small : (c : tie.After-judged) → c.judged.given.0.0 ≤ 9
+small : (c : tie.In-Refused) → c.in-Refused.number ≤ 9
 unfolding CheckNumbers refused
 small c =
-    let checked = c.before.before in
-    let a = checked.before.before.args in
-    let same = refused_is _ _ _ (sym c.judged.given.1 ∙ checked.check.ensures) in
+    let a = c.args in
+    let same = refused_is _ _ _ (sym c.in-Refused.is ∙ c.check-judged.ensures) in
     omega (arith, ap (λ (v : Verdict). v.number) same, (check_numbers (lent a.n a.m a.table.now)).0)
 
-returns-2 : tie.Need-returns-2
+returns-2 : tie.Need-returns
 returns-2 c =
-    let told = c.before in
-    second_refused _ _ _ (sym told.judged.given.1 ∙ told.before.before.check.ensures)
+    second_refused _ _ _ (sym c.in-Refused.is ∙ c.check-judged.ensures)
 
-pub check-second-spec : {M : Type 1} → statement M
-check-second-spec =
+pub check_second_spec : {M : Type 1} → statement M
+check_second_spec =
     tie.close
     (tie.spec
     (λ c κs. search rules)
     (λ c. search rules)
     (λ c. search rules)
     returns
-    (λ c. omega (arith, small c.before))
+    (λ c. omega (arith, small c))
     returns-2)

@@ -25,80 +25,80 @@ record Seeking (m : ℕ) (f held : List ℕ) (d : ℕ) : Type 0 where
   users : Users m f (d - 1) held
   so_far : Passed (bad m f) d
 
-abbrev invariant-loop : tie.invariant-loop
-invariant-loop m list users₀ d₀ users d = Seeking m list users d
+abbrev invariant-loop-d : tie.invariant-loop-d
+invariant-loop-d m list users₀ d₀ users d = Seeking m list users d
 
-abbrev decreases-loop : tie.decreases-loop
-decreases-loop m list users₀ d₀ users d = m + 1 - d
+abbrev decreases-loop-d : tie.decreases-loop-d
+decreases-loop-d m list users₀ d₀ users d = m + 1 - d
 
 -- the places of this proof
-abbrev in-loop : tie.After-wide invariant-loop decreases-loop → tie.In-loop invariant-loop decreases-loop
+abbrev in-loop : tie.After-wide-e invariant-loop-d decreases-loop-d → tie.In-loop-d invariant-loop-d decreases-loop-d
 in-loop c = c.before.before
 
-abbrev at-loop : tie.After-wide invariant-loop decreases-loop → tie.At-loop invariant-loop decreases-loop
+abbrev at-loop : tie.After-wide-e invariant-loop-d decreases-loop-d → tie.At-loop-d invariant-loop-d decreases-loop-d
 at-loop c = (in-loop c).before
 
-abbrev start : tie.At-loop invariant-loop decreases-loop → tie.Start invariant-loop decreases-loop
+abbrev start : tie.At-loop-d invariant-loop-d decreases-loop-d → tie.Start invariant-loop-d decreases-loop-d
 start c = c.before.before
 
 -- what is read is the value of the dart
-value : (c : tie.After-wide invariant-loop decreases-loop) → c.wide.result ≡ nth (start (at-loop c)).args.list.now (at-loop c).loop.d
-value c = c.wide.ensures ∙ sym (nth_index _ _ (at-loop c).loop.invariant.low)
+value : (c : tie.After-wide-e invariant-loop-d decreases-loop-d) → c.wide-e.result ≡ nth (start (at-loop c)).args.list.now (at-loop c).loop-d.d
+value c = c.wide-e.ensures ∙ sym (nth_index _ _ (at-loop c).loop-d.invariant.low)
 
 -- where the dart is bad, it is the first
-found : (c : tie.After-wide invariant-loop decreases-loop) →
+found : (c : tie.After-wide-e invariant-loop-d decreases-loop-d) →
     let s = (start (at-loop c)).args in
-    let d = (at-loop c).loop.d in
+    let d = (at-loop c).loop-d.d in
     bad s.m s.list.now d ≡ true → d ≡ bad_image s.m s.list.now
 unfolding bad_image
 found c hit =
-    let inv = (at-loop c).loop.invariant in
-    sym (least_is _ _ (passed_found _ inv.so_far inv.low (in-loop c).loop-test.true hit))
+    let inv = (at-loop c).loop-d.invariant in
+    sym (least_is _ _ (passed_found _ inv.so_far inv.low (in-loop c).loop-d-test.true hit))
 
-returns : tie.Need-returns invariant-loop decreases-loop
-returns c = found c.before (bad_zero _ _ _ _ (value c.before) c.if1.true)
+returns : tie.Need-returns-then-e-eq0 invariant-loop-d decreases-loop-d
+returns c = found c.before (bad_zero _ _ _ _ (value c.before) c.if-e-eq0.true)
 
-returns-2 : tie.Need-returns-2 invariant-loop decreases-loop
-returns-2 c = let read = c.before.before in found read (bad_over _ _ _ _ (value read) c.if2.true)
+returns-2 : tie.Need-returns-then-m-e invariant-loop-d decreases-loop-d
+returns-2 c = let read = c.before.before in found read (bad_over _ _ _ _ (value read) c.if-m-e.true)
 
 -- past the first two tests, it is bad where a user stands
-used : (c : tie.Else2 invariant-loop decreases-loop) →
+used : (c : tie.Else-m-e invariant-loop-d decreases-loop-d) →
     let read = c.before.before in
     let s = (start (at-loop read)).args in
-    bad s.m s.list.now (at-loop read).loop.d ≡ ltb 0 (get_or (at-loop read).loop.users (read.wide.result - 1) 0)
+    bad s.m s.list.now (at-loop read).loop-d.d ≡ ltb 0 (get_or (at-loop read).loop-d.users (read.wide-e.result - 1) 0)
 used c =
     let read = c.before.before in
-    bad_used _ _ _ _ (value read) (at-loop read).loop.invariant.users (omega arith) c.if2.false (start (at-loop read)).pre.few
+    bad_used _ _ _ _ (value read) (at-loop read).loop-d.invariant.users (omega arith) c.if-m-e.false (start (at-loop read)).requires.few
 
-returns-3 : tie.Need-returns-3 invariant-loop decreases-loop
+returns-3 : tie.Need-returns-then-wide-ne0 invariant-loop-d decreases-loop-d
 returns-3 c =
     let look = c.before in
-    let stands = lt-ltb 0 _ (pos_of_ne-zero (λ z. c.if3.true (look.wide2.ensures ∙ z))) in
+    let stands = lt-ltb 0 _ (pos_of_ne-zero (λ z. c.if-wide-ne0.true (look.wide.ensures ∙ z))) in
     found look.before.before.before (used look.before ∙ stands)
 
-loop-again : tie.Need-loop-preserved invariant-loop decreases-loop
+loop-again : tie.Need-loop-d-preserved invariant-loop-d decreases-loop-d
 loop-again c =
     let look = c.before in
     let read = look.before.before.before in
-    let inv = (at-loop read).loop.invariant in
-    let free = sym look.wide2.ensures ∙ c.if3.false in
+    let inv = (at-loop read).loop-d.invariant in
+    let free = sym look.wide.ensures ∙ c.if-wide-ne0.false in
     record {
       low = omega arith;
       high = omega arith;
-      users = users_given _ _ _ _ (value read) inv.users (omega arith) look.before.if2.false (start (at-loop read)).pre.few inv.low (in-loop read).loop-test.true free;
+      users = users_given _ _ _ _ (value read) inv.users (omega arith) look.if-m-e.false (start (at-loop read)).requires.few inv.low (in-loop read).loop-d-test.true free;
       so_far = passed_turn _ inv.so_far (used look.before ∙ ap (ltb 0) free);
     }
 
-returns-4 : tie.Need-returns-4 invariant-loop decreases-loop
+returns-4 : tie.Need-returns invariant-loop-d decreases-loop-d
 unfolding bad_image
-returns-4 c = sym (none_least _ _ (passed_misses _ c.before.loop.invariant.so_far c.loop-test.false))
+returns-4 c = sym (none_least _ _ (passed_misses _ c.loop-d.invariant.so_far c.loop-d-test.false))
 
-pub first-bad-spec : {M : Type 1} → statement M
-first-bad-spec =
+pub first_bad_spec : {M : Type 1} → statement M
+first_bad_spec =
     tie.close
     (tie.spec
-    invariant-loop
-    decreases-loop
+    invariant-loop-d
+    decreases-loop-d
     (λ c. record { low = omega arith; high = omega arith; users = users_start _ _; so_far = passed_start _ })
     (λ c. omega arith)
     (λ c. omega arith)

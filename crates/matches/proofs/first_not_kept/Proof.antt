@@ -15,41 +15,41 @@ record Seeking (a b : Given) (f : List ℕ) (d : ℕ) : Type 0 where
   high : d ≤ a.m + 1
   so_far : Passed (parts_at a b f) d
 
-abbrev invariant-loop : tie.invariant-loop
-invariant-loop n m table table2 list d₀ d = Seeking (lent n m table) (lent n m table2) list d
+abbrev invariant-loop-d : tie.invariant-loop-d
+invariant-loop-d n m table table2 list d₀ d = Seeking (lent n m table) (lent n m table2) list d
 
-abbrev decreases-loop : tie.decreases-loop
-decreases-loop n m table table2 list d₀ d = m + 1 - d
+abbrev decreases-loop-d : tie.decreases-loop-d
+decreases-loop-d n m table table2 list d₀ d = m + 1 - d
 
-not-kept-requires : tie.Need-not-kept-requires invariant-loop decreases-loop
+not-kept-requires : tie.Need-not_kept-requires invariant-loop-d decreases-loop-d
 not-kept-requires c κs =
     let at-loop = c.before in
-    record { imaged = at-loop.before.before.before.before.requires; low = at-loop.loop.invariant.low; high = c.loop-test.true }
+    record { imaged = at-loop.requires; low = at-loop.loop-d.invariant.low; high = c.loop-d-test.true }
 
-returns : tie.Need-returns invariant-loop decreases-loop
+returns : tie.Need-returns-then-not_kept invariant-loop-d decreases-loop-d
 unfolding not_kept parts_at
 returns c =
     let judged = c.before in
-    let inv = judged.before.before.loop.invariant in
-    let hit = sym judged.not-kept.ensures ∙ c.if1.true in
-    sym (least_is _ _ (passed_found _ inv.so_far inv.low judged.before.loop-test.true hit))
+    let inv = judged.loop-d.invariant in
+    let hit = sym judged.not_kept.ensures ∙ c.if-not_kept.true in
+    sym (least_is _ _ (passed_found _ inv.so_far inv.low judged.loop-d-test.true hit))
 
-loop-again : tie.Need-loop-preserved invariant-loop decreases-loop
+loop-again : tie.Need-loop-d-preserved invariant-loop-d decreases-loop-d
 loop-again c =
     let judged = c.before in
-    let inv = judged.before.before.loop.invariant in
-    record { low = omega arith; high = omega arith; so_far = passed_turn _ inv.so_far (sym judged.not-kept.ensures ∙ c.if1.false) }
+    let inv = judged.loop-d.invariant in
+    record { low = omega arith; high = omega arith; so_far = passed_turn _ inv.so_far (sym judged.not_kept.ensures ∙ c.if-not_kept.false) }
 
-returns-2 : tie.Need-returns-2 invariant-loop decreases-loop
+returns-2 : tie.Need-returns invariant-loop-d decreases-loop-d
 unfolding not_kept parts_at
-returns-2 c = sym (none_least _ _ (passed_misses _ c.before.loop.invariant.so_far c.loop-test.false))
+returns-2 c = sym (none_least _ _ (passed_misses _ c.loop-d.invariant.so_far c.loop-d-test.false))
 
-pub first-not-kept-spec : {M : Type 1} → statement M
-first-not-kept-spec =
+pub first_not_kept_spec : {M : Type 1} → statement M
+first_not_kept_spec =
     tie.close
     (tie.spec
-    invariant-loop
-    decreases-loop
+    invariant-loop-d
+    decreases-loop-d
     (λ c. record { low = omega arith; high = omega arith; so_far = passed_start _ })
     not-kept-requires
     returns

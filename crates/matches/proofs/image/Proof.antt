@@ -7,14 +7,14 @@ use Rattle.matches.proofs.Inside.{nth_index}
 use Rattle.matches.proofs.image.Statement.{statement}
 use Rattle.matches.proofs.image.Tie as tie
 
-returns : tie.Need-returns
-returns c = rw c.if1.true (sym (nth-zero _))
+returns : tie.Need-returns-then-e-eq0
+returns c = rw c.if-e-eq0.true (sym (nth-zero _))
 
-returns-2 : tie.Need-returns-2
+returns-2 : tie.Need-returns
 returns-2 c = c.wide.ensures ∙ sym (nth_index _ _ (omega arith))
 
-pub image-spec : {M : Type 1} → statement M
-image-spec =
+pub image_spec : {M : Type 1} → statement M
+image_spec =
     tie.close
     (tie.spec
     returns

@@ -33,7 +33,7 @@ use Rattle.drawer.specs.declared.table.Entry.{Entry}
 use Rattle.drawer.specs.declared.table.Entry.TheVariants as entry
 use Rattle.drawer.specs.declared.search.Search.{Search}
 use Rattle.drawer.specs.declared.file.Filing.{Filing}
-use Rattle.drawer.proofs.Reading.{length_numbers, table_good}
+use Rattle.drawer.proofs.Readings.{length_numbers, table_good}
 use Rattle.drawer.proofs.Inside.{is_layout, fault_reads}
 
 -- an answer stands for its reading

@@ -39,10 +39,10 @@ use Rattle.drawer.specs.Inside.{Within, HasRecord, Comparable}
 use Rattle.drawer.specs.declared.search.Search.TheVariants as search
 use Rattle.drawer.specs.declared.file.Filing.TheVariants as filing
 use Rattle.drawer.proofs.Record.{Fits, length_record_bytes, filed_in_record_bytes}
-use Rattle.drawer.proofs.Reading.{filing_fits}
+use Rattle.drawer.proofs.Readings.{filing_fits}
 use Rattle.drawer.proofs.Lines.{bounds_fail, record_of_found}
 use Rattle.drawer.proofs.Drawer.{check_good, drawer_whole, search_found, search_none, search_passed, own_refused}
-use Rattle.drawer.proofs.Filing.{filing_passed}
+use Rattle.drawer.proofs.Filings.{filing_passed}
 use Rattle.drawer.proofs.Checking.{within_fewer}
 
 pub accepted_within : (count : ℕ) (bytes : List ℕ) → accepts (drawer_answer (drawer count bytes)) ≡ true → Within count bytes

@@ -31,7 +31,7 @@ use Rattle.drawer.specs.Answers.{reading_of}
 use Rattle.drawer.specs.Inside.{Within, HasRecord}
 use Rattle.drawer.specs.declared.fields.Reading.{Reading}
 use Rattle.drawer.specs.declared.fields.Reading.TheVariants.{Layout}
-use Rattle.drawer.proofs.Reading.{sound_good, good_sound}
+use Rattle.drawer.proofs.Readings.{sound_good, good_sound}
 use Rattle.drawer.proofs.Lines.{bounds_fail}
 use Rattle.drawer.proofs.Inside.{is_layout, fault_reads}
 

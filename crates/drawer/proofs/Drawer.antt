@@ -38,7 +38,7 @@ use Rattle.drawer.specs.Record.{record_size}
 use Rattle.drawer.specs.Drawer.{Drawer, most_records, record_at, entry_at, bad_record, drawer_answer, layout_of, record_of, SearchAnswer, judge_search, search_answer, own_bytes}
 use Rattle.drawer.specs.Lines.{IsRecord, layout_at, Bad, drawer_lines, DrawerShows}
 use Rattle.drawer.specs.Theorems.{found, MatchesRecord}
-use Rattle.drawer.proofs.Reading.{Sound}
+use Rattle.drawer.proofs.Readings.{Sound}
 use Rattle.drawer.proofs.Lines.{bad_says, passed_sound, passed_first, drawer_shows, record_of_found, record_of_none}
 
 -- a list of verdicts that accepts

@@ -36,7 +36,7 @@ use Rattle.drawer.specs.Drawer.{Drawer, drawer, most_records, record_at, entry_a
 use Rattle.drawer.specs.Lines.{IsRecord}
 use Rattle.drawer.specs.Theorems.{Elsewhere}
 use Rattle.drawer.proofs.Record.{length_record_bytes, filed_in_record_bytes}
-use Rattle.drawer.proofs.Reading.{Sound, filing_fits, signed_sound}
+use Rattle.drawer.proofs.Readings.{Sound, filing_fits, signed_sound}
 use Rattle.drawer.proofs.Lines.{passed_sound, passed_first, sound_passed, record_of_none, record_of_die_none}
 use Rattle.drawer.proofs.Drawer.{in_order_both, unless_holds, drawer_whole, GoodDrawer, check_good}
 

@@ -18,8 +18,6 @@ use Prim.Native.Nat.{ℕ, zero, suc, ◌+◌, ◌-◌, ◌*◌, ◌≤◌, ◌<�
 use mathlib.Core.Path.{◌≡◌, refl, sym, ap, ap₂, ◌∙◌}
 use mathlib.Core.Bool.{Bool, true, false, cond, ◌&&◌, and_assoc, and-true, and-false}
 use mathlib.Core.List.{List, [], ◌∷◌, ◌++◌}
-use types.Run.{OneOf, miss}
-use denote.Enum.Declared.{tag_of}
 use native.Mathlib.Omega.{arith}
 use native.Mathlib.Nat.{sub-zero, zero-add}
 use native.Mathlib.Numerals.{add-one}
@@ -49,8 +47,7 @@ use Rattle.drawer.specs.Answers.{reading_of}
 use Rattle.drawer.specs.Inside.{header_of}
 use Rattle.drawer.specs.declared.fields.Reading.{Reading}
 use Rattle.drawer.specs.declared.fields.Reading.TheVariants.{Layout, WrongDimension, WrongSize, NoDie, WrongZeroByte, WrongFilling, NoMap, OtherWord}
-use Rattle.drawer.specs.contracts.fields.Reading.{the_type}
-use Rattle.drawer.proofs.Reading.{accept_bounds, length_numbers, length_table}
+use Rattle.drawer.proofs.Readings.{accept_bounds, length_numbers, length_table}
 
 pub from_bytes_two : (bs : List ℕ) (at : ℕ) → at + 2 ≤ length bs → from_bytes (take 2 (drop at bs)) ≡ get_or bs at 0 + 256 * get_or bs (at + 1) 0
 unfolding from_bytes
@@ -128,16 +125,16 @@ is_layout (NoMap number place) = false
 is_layout OtherWord = false
 
 -- an answer that `let .. else` does not take apart is a fault
-pub other_fault : (h : Reading) → OneOf (1 ∷ 2 ∷ 3 ∷ 4 ∷ 5 ∷ 6 ∷ 7 ∷ []) (tag_of the_type h) → is_layout h ≡ false
+pub other_fault : (h : Reading) → ((die n m : ℕ) → h ≡ Layout die n m → ⊥) → is_layout h ≡ false
 unfolding is_layout
-other_fault (Layout die n m) key = absurd (miss (1 ∷ 2 ∷ 3 ∷ 4 ∷ 5 ∷ 6 ∷ 7 ∷ []) 0 tt key)
-other_fault WrongDimension key = refl
-other_fault WrongSize key = refl
-other_fault NoDie key = refl
-other_fault WrongZeroByte key = refl
-other_fault WrongFilling key = refl
-other_fault (NoMap number place) key = refl
-other_fault OtherWord key = refl
+other_fault (Layout die n m) other = absurd (other die n m refl)
+other_fault WrongDimension other = refl
+other_fault WrongSize other = refl
+other_fault NoDie other = refl
+other_fault WrongZeroByte other = refl
+other_fault WrongFilling other = refl
+other_fault (NoMap number place) other = refl
+other_fault OtherWord other = refl
 
 -- what a fault stands for
 pub fault_reads : (h : Reading) (r : List ℕ) → is_layout h ≡ false → (f : Fault) × (reading_of h r ≡ bad f)

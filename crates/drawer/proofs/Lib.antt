@@ -3,10 +3,10 @@ pub mod Opened
 pub mod Run
 pub mod Refused
 pub mod Record
-pub mod Reading
+pub mod Readings
 pub mod Lines
 pub mod Drawer
-pub mod Filing
+pub mod Filings
 pub mod Plain
 pub mod Theorems
 pub mod Inside

@@ -32,7 +32,7 @@ use Rattle.words.proofs.Order.{same_equal, equal_same}
 use Rattle.drawer.specs.Record.{Filed, record_size, filed_in, zero_byte_in, filling_in, all_zero, read_record}
 use Rattle.drawer.specs.Drawer.{Drawer, most_records, record_at, entry_at, is_bad, has_die, has_layout, repeats, bad_record, judge_count, judge_records, drawer_answer, layout_of, record_of, record_of_die, judge_search, search_answer, judge_next, judge_filing, filing_answer}
 use Rattle.drawer.specs.Lines.{IsRecord, layout_at, Bad, no_die, out_of_bounds, zero_byte, filling, no_map, other_word, die_repeated, layout_repeated, drawer_lines, search_lines, filing_lines, DrawerShows, SearchShows, FilingShows, SearchNumbers, FilingNumbers}
-use Rattle.drawer.proofs.Reading.{Sound, good_sound, sound_reads, bounds_accept, accept_bounds, map_accepts, accepts_map, same_layout_equal, equal_same_layout}
+use Rattle.drawer.proofs.Readings.{Sound, good_sound, sound_reads, bounds_accept, accept_bounds, map_accepts, accepts_map, same_layout_equal, equal_same_layout}
 
 -- an entry has the die, or the layout
 pub has_die_says : (die : ℕ) (f : Filed) → (has_die die f ≡ true) ↔ (f.die ≡ die)

@@ -35,9 +35,9 @@ use Rattle.drawer.specs.Drawer.{Drawer, drawer, most_records, record_at, entry_a
 use Rattle.drawer.specs.Plain.{Call, checks, searches, fetches, files, Answer, checked, searched, fetched, filed, fits, all_fit, drawer_step, drawer_after, drawer_run, first_place, no_entry, filed_at, judge_plain_search, plain_search, plain_fetch, judge_plain_filing, plain_filing, plain_step, plain_after, plain_run, room_in, PlainList}
 use Rattle.drawer.specs.Theorems.{drawer_left, plain_left, holding}
 use Rattle.drawer.proofs.Record.{Fits, length_record_bytes, filed_in_record_bytes}
-use Rattle.drawer.proofs.Reading.{filing_fits}
+use Rattle.drawer.proofs.Readings.{filing_fits}
 use Rattle.drawer.proofs.Drawer.{in_order_both, unless_holds, GoodDrawer, good_check}
-use Rattle.drawer.proofs.Filing.{filing_passed, written, filed_bytes_lem, filed_count, stays_good, refused_bytes}
+use Rattle.drawer.proofs.Filings.{filing_passed, written, filed_bytes_lem, filed_count, stays_good, refused_bytes}
 
 -- the least number that passes, by the first
 module _ (p : ℕ → Bool) (k : ℕ) where
@@ -344,7 +344,7 @@ run_is h [] ok = refl
 run_is {bytes} {fs} h (c ∷ cs) ok =
     let both = both_hold (fits c) (all_fit cs) ok in
     let s = steps h c both.0 in
-    ap₂ (λ (a : Answer) (rest : List Answer). a ∷ rest) s.answer (ap (λ (D : Drawer). drawer_run D cs) s.after ∙ run_is s.held cs both.1)
+    ap₂ (λ (a : Answer) (rest : List Answer). a ∷ rest) s.answer (ap (λ (D : Drawer). drawer_run D cs) s.after ∙ run_is {fs = plain_after (room_in bytes) c fs} s.held cs both.1)
 
 pub left_is : {bytes : List ℕ} {fs : List Filed} → Held bytes fs → (cs : List Call) → T (all_fit cs) → drawer_left (holding bytes fs) cs ≡ holding bytes (plain_left (room_in bytes) fs cs)
 unfolding drawer_left plain_left all_fit
@@ -352,7 +352,7 @@ left_is h [] ok = refl
 left_is {bytes} {fs} h (c ∷ cs) ok =
     let both = both_hold (fits c) (all_fit cs) ok in
     let s = steps h c both.0 in
-    ap (λ (D : Drawer). drawer_left D cs) s.after ∙ left_is s.held cs both.1
+    ap (λ (D : Drawer). drawer_left D cs) s.after ∙ left_is {fs = plain_after (room_in bytes) c fs} s.held cs both.1
 
 -- an empty drawer holds the empty list
 module _ (bytes : List ℕ) where

@@ -5,9 +5,9 @@ use Rattle.drawer.specs.Record.{good, record_bytes, read_record}
 use Rattle.drawer.specs.Drawer.{Drawer, drawer, filed_bytes}
 use Rattle.drawer.specs.Theorems.{filed_as, RecordLong, ReadBack, BytesApart, DrawerAccepts, SearchTells, OwnBytes, FilesNext, KeepsOthers, RefusedKeeps, StaysGood, drawer_left, PlainState}
 use Rattle.drawer.proofs.Record.{length_record_bytes, record_bytes_below, below_nth, filed_in_record_bytes}
-use Rattle.drawer.proofs.Reading.{sound_good, filing_fits, signed_sound}
+use Rattle.drawer.proofs.Readings.{sound_good, filing_fits, signed_sound}
 use Rattle.drawer.proofs.Drawer.{good_check, accepts_each, search_tells, matches_once, search_fifteen, own_bytes_lem}
-use Rattle.drawer.proofs.Filing.{answer_accepts, answer_refuses, filed_count, kept_next, kept_before, kept_elsewhere, kept_long, stays_good, refused_bytes}
+use Rattle.drawer.proofs.Filings.{answer_accepts, answer_refuses, filed_count, kept_next, kept_before, kept_elsewhere, kept_long, stays_good, refused_bytes}
 use Rattle.drawer.proofs.Plain.{left_is, holding_none, held_none}
 
 pub record_long : RecordLong

@@ -34,7 +34,7 @@ use Rattle.drawer.specs.Answers.{read_for, reading_of, is_read, entry_of, table_
 use Rattle.drawer.specs.declared.fields.Reading.{Reading}
 use Rattle.drawer.specs.declared.fields.Reading.TheVariants.{Layout}
 use Rattle.drawer.specs.declared.table.Entry.TheVariants as entry
-use Rattle.drawer.proofs.Reading.{map_accepts, table_good, length_table}
+use Rattle.drawer.proofs.Readings.{map_accepts, table_good, length_table}
 use Rattle.drawer.proofs.Writing.{room_enough}
 use Rattle.drawer.proofs.Inside.{is_layout}
 use Rattle.lister.specs.Listing.{decimal, spaced, shown_fault, shown_reading, accepted_line, refused_line, line_for, line_of, short_end, line_from}

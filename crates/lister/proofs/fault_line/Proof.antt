@@ -18,35 +18,35 @@ shown-as die k reading h r is line = rw is line
 
 returns : tie.Need-returns
 unfolding shown_reading shown_fault reading_of refused_line accepted refused
-returns c = shown-as _ _ _ _ _ c.before.enum_told.given.1 c.refused-line.ensures
+returns c = shown-as _ _ _ _ _ c.enum_told.given.1 c.refused-line.ensures
 
 returns-2 : tie.Need-returns-2
 unfolding shown_reading shown_fault reading_of refused_line accepted refused
-returns-2 c = shown-as _ _ _ _ _ c.before.enum-told2.given.1 c.refused-line2.ensures
+returns-2 c = shown-as _ _ _ _ _ c.enum-told2.given.1 c.refused-line2.ensures
 
 returns-3 : tie.Need-returns-3
 unfolding shown_reading shown_fault reading_of refused_line accepted refused
-returns-3 c = shown-as _ _ _ _ _ c.before.enum-told3.given.1 c.refused-line3.ensures
+returns-3 c = shown-as _ _ _ _ _ c.enum-told3.given.1 c.refused-line3.ensures
 
 returns-4 : tie.Need-returns-4
 unfolding shown_reading shown_fault reading_of refused_line accepted refused
-returns-4 c = shown-as _ _ _ _ _ c.before.enum-told4.given.1 c.refused-line4.ensures
+returns-4 c = shown-as _ _ _ _ _ c.enum-told4.given.1 c.refused-line4.ensures
 
 returns-5 : tie.Need-returns-5
 unfolding shown_reading shown_fault reading_of refused_line accepted refused
-returns-5 c = shown-as _ _ _ _ _ c.before.enum-told5.given.1 c.refused-line5.ensures
+returns-5 c = shown-as _ _ _ _ _ c.enum-told5.given.1 c.refused-line5.ensures
 
 returns-6 : tie.Need-returns-6
 unfolding shown_reading shown_fault reading_of refused_line accepted refused
-returns-6 c = shown-as _ _ _ _ _ c.before.enum-told6.given.1 c.refused-line6.ensures
+returns-6 c = shown-as _ _ _ _ _ c.enum-told6.given.1 c.refused-line6.ensures
 
 returns-7 : tie.Need-returns-7
 unfolding shown_reading shown_fault reading_of refused_line accepted refused
-returns-7 c = shown-as _ _ _ _ _ c.before.before.reading.given.1 c.refused-line7.ensures
+returns-7 c = shown-as _ _ _ _ _ c.reading.given.1 c.refused-line7.ensures
 
 returns-8 : tie.Need-returns-8
 unfolding shown_reading shown_fault reading_of refused_line accepted refused
-returns-8 c = shown-as _ _ _ _ _ c.before.enum-told7.given.1 c.refused-line8.ensures
+returns-8 c = shown-as _ _ _ _ _ c.enum-told7.given.1 c.refused-line8.ensures
 
 pub fault-line-spec : {M : Type 1} → statement M
 fault-line-spec =

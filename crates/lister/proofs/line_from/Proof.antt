@@ -8,14 +8,14 @@ use Rattle.lister.proofs.line_from.Statement.{statement}
 use Rattle.lister.proofs.line_from.Tie as tie
 
 returns : tie.Need-returns
-returns c = same_line _ _ _ (from_short _ _ c.before.if1.true) c.short-line.ensures
+returns c = same_line _ _ _ (from_short _ _ c.if1.true) c.short-line.ensures
 
 record-line-requires : tie.Need-record-line-requires
 unfolding record_size
-record-line-requires c κs = length-take-le 2048 c.before.before.before.args.bytes.now c.before.if1.false
+record-line-requires c κs = length-take-le 2048 c.args.bytes.now c.if1.false
 
 returns-2 : tie.Need-returns-2
-returns-2 c = same_line _ _ _ (from_record _ _ c.before.before.if1.false) c.record_line.ensures
+returns-2 c = same_line _ _ _ (from_record _ _ c.if1.false) c.record_line.ensures
 
 pub line-from-spec : {M : Type 1} → statement M
 line-from-spec =
@@ -23,6 +23,6 @@ line-from-spec =
     (tie.spec
     (λ c κs. search rules)
     returns
-    (λ c. sym (length-take-le 2048 c.before.before.before.args.bytes.now c.before.if1.false))
+    (λ c. sym (length-take-le 2048 c.args.bytes.now c.if1.false))
     record-line-requires
     returns-2)

@@ -13,14 +13,14 @@ abbrev decreases-loop : tie.decreases-loop
 decreases-loop line₀ at x rest₀ start₀ line rest start = rest
 
 -- the array reaches as far as the index
-reaches : (l : tie.At-loop invariant-loop decreases-loop) → l.before.args.at ≤ length l.before.args.line.now
-reaches l = let pre = l.before.requires in omega (arith, pre.inside, pre.long)
+reaches : (l : tie.At-loop invariant-loop decreases-loop) → l.args.at ≤ length l.args.line.now
+reaches l = let pre = l.requires in omega (arith, pre.inside, pre.long)
 
 loop-again : tie.Need-loop-preserved invariant-loop decreases-loop
-loop-again c = let l = c.before in digits_turn l.loop.invariant l.before.requires.free (reaches l) c.loop-test.true
+loop-again c = let l = c.before in digits_turn l.loop.invariant l.requires.free (reaches l) c.loop-test.true
 
 returns : tie.Need-returns invariant-loop decreases-loop
-returns c = let l = c.before in digits_last l.loop.invariant l.before.requires.free (reaches l) c.loop-test.false
+returns c = let l = c.before in digits_last l.loop.invariant l.requires.free (reaches l) c.loop-test.false
 
 pub put-decimal-spec : {M : Type 1} → statement M
 put-decimal-spec =
@@ -29,14 +29,14 @@ put-decimal-spec =
     invariant-loop
     decreases-loop
     (λ c. digits_start _ _ _ (omega (arith, c.ranges.x)))
-    (λ c. let l = c.before in omega (arith, l.loop.invariant.room, l.before.requires.free))
+    (λ c. let l = c.before in omega (arith, l.loop.invariant.room, l.requires.free))
     (λ c. omega arith)
     (λ c. omega arith)
-    (λ c. let l = c.before in omega (arith, l.loop.invariant.high, l.before.requires.inside, l.loop.invariant.room, l.before.requires.free))
+    (λ c. let l = c.before in omega (arith, l.loop.invariant.high, l.requires.inside, l.loop.invariant.room, l.requires.free))
     (λ c. omega arith)
     loop-again
-    (λ c. let l = c.before in omega (arith, l.loop.invariant.room, l.before.requires.free))
+    (λ c. let l = c.before in omega (arith, l.loop.invariant.room, l.requires.free))
     (λ c. omega arith)
     (λ c. omega arith)
-    (λ c. let l = c.before in omega (arith, l.loop.invariant.high, l.before.requires.inside, l.loop.invariant.room, l.before.requires.free))
+    (λ c. let l = c.before in omega (arith, l.loop.invariant.high, l.requires.inside, l.loop.invariant.room, l.requires.free))
     returns)

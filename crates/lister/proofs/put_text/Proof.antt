@@ -15,16 +15,16 @@ abbrev decreases-loop : tie.decreases-loop
 decreases-loop line₀ at text start i₀ line i = length text - i
 
 -- the text has room in the array
-room : (l : tie.At-loop invariant-loop decreases-loop) → l.before.args.at - length l.before.args.text.now + length l.before.args.text.now ≤ length l.before.args.line.now
-room l = let pre = l.before.requires in omega (arith, pre.free, pre.inside, pre.long)
+room : (l : tie.At-loop invariant-loop decreases-loop) → l.args.at - length l.args.text.now + length l.args.text.now ≤ length l.args.line.now
+room l = let pre = l.requires in omega (arith, pre.free, pre.inside, pre.long)
 
 loop-again : tie.Need-loop-preserved invariant-loop decreases-loop
-loop-again c = let l = c.before.before in laid_turn l.loop.invariant (room l) c.before.loop-test.true
+loop-again c = let l = c.before.before in laid_turn l.loop.invariant (room l) c.loop-test.true
 
 returns : tie.Need-returns invariant-loop decreases-loop
 returns c =
     let l = c.before in
-    let pre = l.before.requires in
+    let pre = l.requires in
     (put_laid _ _ _ _ _ (omega (arith, pre.free)) (omega (arith, pre.inside, pre.long)) (laid_done l.loop.invariant (room l) c.loop-test.false), omega (arith, pre.free))
 
 pub put-text-spec : {M : Type 1} → statement M
@@ -36,9 +36,9 @@ put-text-spec =
     (λ c. omega (arith, c.requires.free))
     (λ c. laid_start _ _ _ _ refl)
     (λ c. omega arith)
-    (λ c. let pre = c.before.before.before.requires in omega (arith, pre.free, pre.inside))
-    (λ c. let pre = c.before.before.before.requires in omega (arith, pre.free, pre.inside))
-    (λ c. let pre = c.before.before.before.requires in omega (arith, pre.free, pre.inside))
+    (λ c. let pre = c.requires in omega (arith, pre.free, pre.inside))
+    (λ c. let pre = c.requires in omega (arith, pre.free, pre.inside))
+    (λ c. let pre = c.requires in omega (arith, pre.free, pre.inside))
     (λ c. omega arith)
     loop-again
     returns)

@@ -9,14 +9,14 @@ use Rattle.lister.proofs.short_line.Tie as tie
 
 returns : tie.Need-returns
 unfolding short_end
-returns c = simp (eq-eqb c.before.args.count 0 c.if1.true) (record { begins = refl; printed = refl })
+returns c = simp (eq-eqb c.args.count 0 c.if1.true) (record { begins = refl; printed = refl })
 
 returns-2 : tie.Need-returns-2
 unfolding short_end spaced short_word
 returns-2 c =
     let last = c.before.before.before in
     let some = last.before.before in
-    simp (ne_eqb some.before.args.count 0 some.if1.false)
+    simp (ne_eqb some.args.count 0 some.if1.false)
     (printed _ _ (put_join last.put_last.ensures.0 c.put-text.ensures.0))
 
 pub short-line-spec : {M : Type 1} → statement M

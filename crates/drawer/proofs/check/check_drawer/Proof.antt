@@ -10,27 +10,27 @@ use Rattle.drawer.proofs.check.check_drawer.Statement.{statement}
 use Rattle.drawer.proofs.check.check_drawer.Tie as tie
 
 -- the records lie inside the bytes
-within : (c : tie.Else2) →
+within : (c : tie.Else-bytes-count) →
     let s = c.before.before.before in
     Within s.args.count s.args.bytes.now
-within c = record { few = c.before.if1.false; inside = c.if2.false }
+within c = record { few = c.if-count-gt1024.false; inside = c.if-bytes-count.false }
 
-returns : tie.Need-returns
-returns c = judged_refused 13 0 (omega arith) (checked_over _ _ (inl c.if1.true))
+returns : tie.Need-returns-then-count-gt1024
+returns c = judged_refused 13 0 (omega arith) (checked_over _ _ (inl c.if-count-gt1024.true))
 
-returns-2 : tie.Need-returns-2
-returns-2 c = judged_refused 13 0 (omega arith) (checked_over _ _ (inr c.if2.true))
+returns-2 : tie.Need-returns-then-bytes-count
+returns-2 c = judged_refused 13 0 (omega arith) (checked_over _ _ (inr c.if-bytes-count.true))
 
-returns-3 : tie.Need-returns-3
+returns-3 : tie.Need-returns-then-bad-ne0
 returns-3 c =
     let judged = c.before in
-    judged_refused 14 _ (omega arith) (checked_bad _ _ (within judged.before) _ judged.first-bad.ensures c.if3.true)
+    judged_refused 14 _ (omega arith) (checked_bad _ _ (within judged.before) _ judged.first_bad-bad.ensures c.if-bad-ne0.true)
 
-returns-4 : tie.Need-returns-4
+returns-4 : tie.Need-returns
 returns-4 c =
     let judged = c.before in
-    judged_passed (checked_good _ _ (within judged.before) (sym c.if3.false ∙ judged.first-bad.ensures))
+    judged_passed (checked_good _ _ (within judged.before) (sym c.if-bad-ne0.false ∙ judged.first_bad-bad.ensures))
 
-pub check-drawer-spec : {M : Type 1} → statement M
-check-drawer-spec =
+pub check_drawer_spec : {M : Type 1} → statement M
+check_drawer_spec =
     tie.close (tie.spec returns (λ c. search rules) returns-2 (λ c κs. within c) returns-3 returns-4)

@@ -9,9 +9,9 @@ use Rattle.drawer.proofs.check.record_at.Tie as tie
 
 returns : tie.Need-returns
 returns c =
-    let part = record_part _ _ c.before.requires in
+    let part = record_part _ _ c.requires in
     (part.0, ap length part.0 ∙ part.1)
 
-pub record-at-spec : {M : Type 1} → statement M
-record-at-spec =
+pub record_at_spec : {M : Type 1} → statement M
+record_at_spec =
     tie.close (tie.spec (λ c. omega (arith, c.requires.within.few)) (λ c. search rules) (λ c. search rules) (λ c. search rules) (λ c. c.requires.within.inside) returns)

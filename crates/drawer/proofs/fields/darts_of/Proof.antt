@@ -13,5 +13,5 @@ number2-requires c κs = omega arith
 returns : tie.Need-returns
 returns c = (c.number2.ensures.0 ∙ bytes_six _, c.number2.ensures.1)
 
-pub darts-of-spec : {M : Type 1} → statement M
-darts-of-spec = tie.close (tie.spec number2-requires returns)
+pub darts_of_spec : {M : Type 1} → statement M
+darts_of_spec = tie.close (tie.spec number2-requires returns)

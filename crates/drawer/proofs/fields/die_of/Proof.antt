@@ -14,5 +14,5 @@ number4-requires c κs = omega arith
 returns : tie.Need-returns
 returns c = c.number4.ensures.0 ∙ bytes_first _
 
-pub die-of-spec : {M : Type 1} → statement M
-die-of-spec = tie.close (tie.spec number4-requires (λ c. search rules) returns)
+pub die_of_spec : {M : Type 1} → statement M
+die_of_spec = tie.close (tie.spec number4-requires (λ c. search rules) returns)

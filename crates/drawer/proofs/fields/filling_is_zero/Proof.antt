@@ -11,26 +11,26 @@ use Rattle.drawer.proofs.Inside.{both_turn, both_done, all_zero_past, all_zero_h
 use Rattle.drawer.proofs.fields.filling_is_zero.Statement.{statement}
 use Rattle.drawer.proofs.fields.filling_is_zero.Tie as tie
 
-abbrev invariant-loop : tie.invariant-loop
-invariant-loop bytes from zero₀ i₀ zero i = (zero && all_zero (drop i bytes)) ≡ all_zero (drop from bytes)
+abbrev invariant-loop-i : tie.invariant-loop-i
+invariant-loop-i bytes from zero₀ i₀ zero i = (zero && all_zero (drop i bytes)) ≡ all_zero (drop from bytes)
 
-abbrev decreases-loop : tie.decreases-loop
-decreases-loop bytes from zero₀ i₀ zero i = length bytes - i
+abbrev decreases-loop-i : tie.decreases-loop-i
+decreases-loop-i bytes from zero₀ i₀ zero i = length bytes - i
 
-loop-again : tie.Need-loop-preserved invariant-loop decreases-loop
+loop-again : tie.Need-loop-i-preserved invariant-loop-i decreases-loop-i
 loop-again c =
     let at-loop = c.before.before.before in
-    both_turn at-loop.loop.zero _ _ at-loop.loop.invariant (all_zero_here _ _ c.before.before.loop-test.true) c.both.ensures
+    both_turn at-loop.loop-i.zero _ _ at-loop.loop-i.invariant (all_zero_here _ _ c.loop-i-test.true) c.both-zero.ensures
 
-returns : tie.Need-returns invariant-loop decreases-loop
-returns c = both_done c.before.loop.zero c.before.loop.invariant (all_zero_past _ _ c.loop-test.false)
+returns : tie.Need-returns invariant-loop-i decreases-loop-i
+returns c = both_done c.loop-i.zero c.loop-i.invariant (all_zero_past _ _ c.loop-i-test.false)
 
-pub filling-is-zero-spec : {M : Type 1} → statement M
-filling-is-zero-spec =
+pub filling_is_zero_spec : {M : Type 1} → statement M
+filling_is_zero_spec =
     tie.close
     (tie.spec
-    invariant-loop
-    decreases-loop
+    invariant-loop-i
+    decreases-loop-i
     (λ c. refl)
     (λ c. search rules)
     (λ c κs. search rules)

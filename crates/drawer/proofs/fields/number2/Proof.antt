@@ -10,10 +10,10 @@ returns c =
     let first = c.before.before in
     let s = first.before.before.before in
     let said = from_bytes_two s.args.bytes.now s.args.at s.requires in
-    (omega (arith, said, first.wide.ensures, c.wide2.ensures), omega (arith, first.wide.ensures, c.wide2.ensures))
+    (omega (arith, said, first.wide-low.ensures, c.wide-high.ensures), omega (arith, first.wide-low.ensures, c.wide-high.ensures))
 
-pub number2-spec : {M : Type 1} → statement M
-number2-spec =
+pub number2_spec : {M : Type 1} → statement M
+number2_spec =
     tie.close
     (tie.spec
     (λ c. search rules)

@@ -10,10 +10,10 @@ returns c =
     let first = c.before in
     let s = first.before.before in
     let said = from_bytes_four s.args.bytes.now s.args.at s.requires in
-    (omega (arith, said, first.number2.ensures, c.number22.ensures), omega (arith, first.number2.ensures, c.number22.ensures))
+    (omega (arith, said, first.number2-low.ensures, c.number2-high.ensures), omega (arith, first.number2-low.ensures, c.number2-high.ensures))
 
-pub number4-spec : {M : Type 1} → statement M
-number4-spec =
+pub number4_spec : {M : Type 1} → statement M
+number4_spec =
     tie.close
     (tie.spec
     (λ c κs. search rules)

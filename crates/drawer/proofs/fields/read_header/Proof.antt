@@ -8,47 +8,47 @@ use Rattle.drawer.proofs.Inside.{header_low, header_high, header_none, header_la
 use Rattle.drawer.proofs.fields.read_header.Statement.{statement}
 use Rattle.drawer.proofs.fields.read_header.Tie as tie
 
-returns : tie.Need-returns
-returns c = sym (header_low _ _ c.before.dimension-of.ensures c.if1.true)
+returns : tie.Need-returns-then-n-eq0
+returns c = sym (header_low _ _ c.dimension_of-n.ensures c.if-n-eq0.true)
 
-returns-2 : tie.Need-returns-2
-returns-2 c = sym (header_high _ _ c.before.before.dimension-of.ensures c.if2.true)
+returns-2 : tie.Need-returns-then-n-gt4
+returns-2 c = sym (header_high _ _ c.dimension_of-n.ensures c.if-n-gt4.true)
 
-returns-3 : tie.Need-returns-3
+returns-3 : tie.Need-returns-then-m-eq0
 returns-3 c =
     let if2 = c.before.before in
     let if1 = if2.before in
-    sym (header_none _ _ if1.before.dimension-of.ensures if1.if1.false if2.if2.false _ c.before.darts-of.ensures.0 c.if3.true)
+    sym (header_none _ _ if1.dimension_of-n.ensures if1.if-n-eq0.false if2.if-n-gt4.false _ c.darts_of-m.ensures.0 c.if-m-eq0.true)
 
 -- n times m is small, whatever m says
-mul-if4 : tie.Need-overflow-mul-if4
+mul-if4 : tie.Need-overflow_mul-n
 mul-if4 c =
     let if2 = c.before.before in
-    omega (arith, mul-le-mul_right c.before.darts-of.result if2.if2.false, c.before.darts-of.ensures.1)
+    omega (arith, mul-le-mul_right c.darts_of-m.result if2.if-n-gt4.false, c.darts_of-m.ensures.1)
 
-returns-4 : tie.Need-returns-4
+returns-4 : tie.Need-returns-then-n-m-gt1020
 returns-4 c =
     let if3 = c.before in
     let if2 = if3.before.before in
     let if1 = if2.before in
     sym
-    (header_large _ _ if1.before.dimension-of.ensures if1.if1.false if2.if2.false _ if3.before.darts-of.ensures.0 if3.if3.false c.if4.true)
+    (header_large _ _ if1.dimension_of-n.ensures if1.if-n-eq0.false if2.if-n-gt4.false _ if3.darts_of-m.ensures.0 if3.if-m-eq0.false c.if-n-m-gt1020.true)
 
-returns-5 : tie.Need-returns-5
+returns-5 : tie.Need-returns-then-die-eq0
 returns-5 c =
     let if4 = c.before.before in
     let if3 = if4.before in
     let if2 = if3.before.before in
     let if1 = if2.before in
     sym
-    (header_no_die _ _ if1.before.dimension-of.ensures if1.if1.false if2.if2.false _ if3.before.darts-of.ensures.0 if3.if3.false if4.if4.false _
-    c.before.die-of.ensures c.if5.true)
+    (header_no_die _ _ if1.dimension_of-n.ensures if1.if-n-eq0.false if2.if-n-gt4.false _ if3.darts_of-m.ensures.0 if3.if-m-eq0.false if4.if-n-m-gt1020.false _
+    c.die_of-die.ensures c.if-die-eq0.true)
 
-shared-slice-read-if6 : tie.Need-shared-slice-read-if6
+shared-slice-read-if6 : tie.Need-bounds-bytes-5
 unfolding record_size
 shared-slice-read-if6 c = omega arith
 
-returns-6 : tie.Need-returns-6
+returns-6 : tie.Need-returns-then-bytes-ne0
 returns-6 c =
     let if5 = c.before.before in
     let if4 = if5.before.before in
@@ -56,10 +56,10 @@ returns-6 c =
     let if2 = if3.before.before in
     let if1 = if2.before in
     sym
-    (header_byte _ _ if1.before.dimension-of.ensures if1.if1.false if2.if2.false _ if3.before.darts-of.ensures.0 if3.if3.false if4.if4.false _
-    if5.before.die-of.ensures if5.if5.false c.if6.true)
+    (header_byte _ _ if1.dimension_of-n.ensures if1.if-n-eq0.false if2.if-n-gt4.false _ if3.darts_of-m.ensures.0 if3.if-m-eq0.false if4.if-n-m-gt1020.false _
+    if5.die_of-die.ensures if5.if-die-eq0.false c.if-bytes-ne0.true)
 
-returns-7 : tie.Need-returns-7
+returns-7 : tie.Need-returns-then-filling_is_zero
 returns-7 c =
     let if6 = c.before.before in
     let if5 = if6.before.before in
@@ -68,10 +68,10 @@ returns-7 c =
     let if2 = if3.before.before in
     let if1 = if2.before in
     sym
-    (header_whole _ _ if1.before.dimension-of.ensures if1.if1.false if2.if2.false _ if3.before.darts-of.ensures.0 if3.if3.false if4.if4.false _
-    if5.before.die-of.ensures if5.if5.false if6.if6.false (sym c.before.filling-is-zero.ensures ∙ c.if7.true))
+    (header_whole _ _ if1.dimension_of-n.ensures if1.if-n-eq0.false if2.if-n-gt4.false _ if3.darts_of-m.ensures.0 if3.if-m-eq0.false if4.if-n-m-gt1020.false _
+    if5.die_of-die.ensures if5.if-die-eq0.false if6.if-bytes-ne0.false (sym c.filling_is_zero.ensures ∙ c.if-filling_is_zero.true))
 
-returns-8 : tie.Need-returns-8
+returns-8 : tie.Need-returns
 returns-8 c =
     let if6 = c.before.before in
     let if5 = if6.before.before in
@@ -80,11 +80,11 @@ returns-8 c =
     let if2 = if3.before.before in
     let if1 = if2.before in
     sym
-    (header_unfilled _ _ if1.before.dimension-of.ensures if1.if1.false if2.if2.false _ if3.before.darts-of.ensures.0 if3.if3.false if4.if4.false _
-    if5.before.die-of.ensures if5.if5.false if6.if6.false (sym c.before.filling-is-zero.ensures ∙ c.if7.false))
+    (header_unfilled _ _ if1.dimension_of-n.ensures if1.if-n-eq0.false if2.if-n-gt4.false _ if3.darts_of-m.ensures.0 if3.if-m-eq0.false if4.if-n-m-gt1020.false _
+    if5.die_of-die.ensures if5.if-die-eq0.false if6.if-bytes-ne0.false (sym c.filling_is_zero.ensures ∙ c.if-filling_is_zero.false))
 
-pub read-header-spec : {M : Type 1} → statement M
-read-header-spec =
+pub read_header_spec : {M : Type 1} → statement M
+read_header_spec =
     tie.close
     (tie.spec
     (λ c κs. search rules)

@@ -15,82 +15,82 @@ use Rattle.drawer.proofs.fields.read_record.Statement.{statement}
 use Rattle.drawer.proofs.fields.read_record.Tie as tie
 
 -- the places of this proof
-abbrev header : tie.After-header → tie.After-read-header
-header c = c.before.before
+abbrev header : tie.In-Layout → tie.After-read_header-header
+header c = c.before
 
-abbrev fields : tie.After-read-word → tie.After-header
-fields c = c.before.before.before
+abbrev fields : tie.After-read_word → tie.In-Layout
+fields c = c.before.before
 
-abbrev copied : tie.After-own-word → tie.After-read-word
+abbrev copied : tie.After-own_word → tie.After-read_word
 copied c = c.before.before.before
 
 -- the record, and the numbers that its header says
-abbrev bytes_of : tie.After-header → List ℕ
-bytes_of c = (header c).before.before.args.bytes.now
+abbrev bytes_of : tie.In-Layout → List ℕ
+bytes_of c = (header c).args.bytes.now
 
-abbrev size : tie.After-header → ℕ
-size c = c.header.given.0.1.0 * c.header.given.0.1.1.0
+abbrev size : tie.In-Layout → ℕ
+size c = c.in-Layout.n * c.in-Layout.m
 
-known : (c : tie.After-header) →
-    let f = c.header.given.0 in
-    Known (bytes_of c) f.0 f.1.0 f.1.1.0
-known c = header_known _ _ _ _ (sym (header c).read-header.ensures ∙ c.header.given.1)
+known : (c : tie.In-Layout) →
+    let f = c.in-Layout in
+    Known (bytes_of c) f.die f.n f.m
+known c = header_known _ _ _ _ (sym (header c).read_header-header.ensures ∙ c.in-Layout.is)
 
-few : (c : tie.After-header) → size c ≤ 1020
+few : (c : tie.In-Layout) → size c ≤ 1020
 few c = (known c).bounds.table_most
 
-word-long : (c : tie.After-read-word) → length c.read_word.new.1.1.0 ≡ 1020
+word-long : (c : tie.After-read_word) → length c.read_word.new.word ≡ 1020
 word-long c = copied_long _ _ _ _ c.read_word.ensures (few (fields c))
 
-returns : tie.Need-returns
-returns c = record_fault _ _ c.before.read-header.ensures (other_fault _ c.match.keys2)
+returns : tie.Need-returns-in_default
+returns c = record_fault _ _ c.read_header-header.ensures (other_fault _ c.in_default.not-Layout)
 
-read-word-requires : tie.Need-read-word-requires
+read-word-requires : tie.Need-read_word-requires
 unfolding record_size
 read-word-requires c κs =
-    let f = c.before.before in
+    let f = c.before in
     record {
       few = few f;
-      long = omega (arith, few f, (header f).before.before.requires);
+      long = omega (arith, few f, (header f).requires);
       room = few f;
     }
 
 -- what the answer on the word says of the record
-told : (c : tie.After-own-word) (o : Own) → c.own-word.result ≡ o →
+told : (c : tie.After-own_word) (o : Own) → c.own_word.result ≡ o →
     let h = fields (copied c) in
-    let f = h.header.given.0 in
-    reading_of (word_told f.0 f.1.0 f.1.1.0 o) (bytes_of h) ≡ read_record (bytes_of h)
+    let f = h.in-Layout in
+    reading_of (word_told f.die f.n f.m o) (bytes_of h) ≡ read_record (bytes_of h)
 told c o is =
     let w = copied c in
     let h = fields w in
     let k = known h in
     word_reads _ _ _ _
-    (sym h.header.given.1 ∙ (header h).read-header.ensures)
+    (sym h.in-Layout.is ∙ (header h).read_header-header.ensures)
     _
     (copied_table _ _ _ _ w.read_word.ensures (ap₂ ◌*◌ k.is_n k.is_m))
     o
-    (sym is ∙ c.own-word.ensures)
+    (sym is ∙ c.own_word.ensures)
 
-returns-2 : tie.Need-returns-2
+returns-2 : tie.Need-returns-in-Signature
 unfolding word_told
-returns-2 c = told c.before.before _ c.enum_told.given.1
+returns-2 c = told c.before _ c.in-Signature.is
 
-returns-3 : tie.Need-returns-3
+returns-3 : tie.Need-returns-in-Other
 unfolding word_told
-returns-3 c = told c.before.before _ c.enum-told2.given.1
+returns-3 c = told c.before _ c.in-Other.is
 
-returns-4 : tie.Need-returns-4
+returns-4 : tie.Need-returns-in-Refused
 unfolding word_told
-returns-4 c = told c.before.before.before _ c.before.number.given.1
+returns-4 c = told c.before _ c.in-Refused.is
 
-pub read-record-spec : {M : Type 1} → statement M
-read-record-spec =
+pub read_record_spec : {M : Type 1} → statement M
+read_record_spec =
     tie.close
     (tie.spec
     (λ c κs. search rules)
     (λ c. search rules)
     returns
-    (λ c. omega (arith, few c.before))
+    (λ c. omega (arith, few c))
     (λ c. search rules)
     read-word-requires
     (λ c. omega (arith, few (fields c.before), word-long c.before))

@@ -12,29 +12,29 @@ use Rattle.drawer.proofs.Inside.{both_turn, both_done, same_from, same_start, sa
 use Rattle.drawer.proofs.fields.same_numbers.Statement.{statement}
 use Rattle.drawer.proofs.fields.same_numbers.Tie as tie
 
-abbrev invariant-loop : tie.invariant-loop
-invariant-loop first second at count alike₀ i₀ alike i = (alike && same_from first second at count i) ≡ same (numbers count (drop at first)) (numbers count (drop at second))
+abbrev invariant-loop-i : tie.invariant-loop-i
+invariant-loop-i first second at count alike₀ i₀ alike i = (alike && same_from first second at count i) ≡ same (numbers count (drop at first)) (numbers count (drop at second))
 
-abbrev decreases-loop : tie.decreases-loop
-decreases-loop first second at count alike₀ i₀ alike i = count - i
+abbrev decreases-loop-i : tie.decreases-loop-i
+decreases-loop-i first second at count alike₀ i₀ alike i = count - i
 
-loop-again : tie.Need-loop-preserved invariant-loop decreases-loop
+loop-again : tie.Need-loop-i-preserved invariant-loop-i decreases-loop-i
 loop-again c =
     let first_read = c.before.before in
     let at-loop = first_read.before.before in
-    both_turn at-loop.loop.alike _ _ at-loop.loop.invariant
-    (same_here _ _ _ _ _ first_read.before.loop-test.true _ _ first_read.number2.ensures.0 c.before.number22.ensures.0)
-    c.both.ensures
+    both_turn at-loop.loop-i.alike _ _ at-loop.loop-i.invariant
+    (same_here _ _ _ _ _ first_read.loop-i-test.true _ _ first_read.number2.ensures.0 c.number2-in-loop-i.ensures.0)
+    c.both-alike.ensures
 
-returns : tie.Need-returns invariant-loop decreases-loop
-returns c = both_done c.before.loop.alike c.before.loop.invariant (same_past _ _ _ _ _ c.loop-test.false)
+returns : tie.Need-returns invariant-loop-i decreases-loop-i
+returns c = both_done c.loop-i.alike c.loop-i.invariant (same_past _ _ _ _ _ c.loop-i-test.false)
 
-pub same-numbers-spec : {M : Type 1} → statement M
-same-numbers-spec =
+pub same_numbers_spec : {M : Type 1} → statement M
+same_numbers_spec =
     tie.close
     (tie.spec
-    invariant-loop
-    decreases-loop
+    invariant-loop-i
+    decreases-loop-i
     (λ c. let s = c.before.before in same_start s.args.first.now s.args.second.now s.args.at s.args.count)
     (λ c. omega arith)
     (λ c. omega arith)

@@ -16,51 +16,51 @@ record Comparing (r s : List ℕ) (size i : ℕ) : Type 0 where
   high : i ≤ size
   so_far : same_from r s 8 size i ≡ same (numbers size (drop 8 r)) (numbers size (drop 8 s))
 
-abbrev invariant-loop : tie.invariant-loop
-invariant-loop first second size i₀ i = Comparing first second size i
+abbrev invariant-loop-i : tie.invariant-loop-i
+invariant-loop-i first second size i₀ i = Comparing first second size i
 
-abbrev decreases-loop : tie.decreases-loop
-decreases-loop first second size i₀ i = size - i
+abbrev decreases-loop-i : tie.decreases-loop-i
+decreases-loop-i first second size i₀ i = size - i
 
 -- the places of this proof
-abbrev start : tie.At-loop invariant-loop decreases-loop → tie.Start invariant-loop decreases-loop
+abbrev start : tie.At-loop-i invariant-loop-i decreases-loop-i → tie.Start invariant-loop-i decreases-loop-i
 start l = l.before.before.before
 
 -- what the next sixteen numbers tell of all that are left
-block : (c : tie.After-same-numbers invariant-loop decreases-loop) (told : Bool) → c.same_numbers.result ≡ told →
+block : (c : tie.After-same_numbers invariant-loop-i decreases-loop-i) (told : Bool) → c.same_numbers.result ≡ told →
     let l = c.before.before in
     let a = (start l).args in
-    same_from a.first.now a.second.now 8 a.size l.loop.i ≡ (told && same_from a.first.now a.second.now 8 a.size (l.loop.i + 16))
+    same_from a.first.now a.second.now 8 a.size l.loop-i.i ≡ (told && same_from a.first.now a.second.now 8 a.size (l.loop-i.i + 16))
 block c told is =
     let l = c.before.before in
     let a = (start l).args in
-    same_block a.first.now a.second.now 8 a.size l.loop.i 16 c.before.loop-test.true
-    ∙ ap (λ (b : Bool). b && same_from a.first.now a.second.now 8 a.size (l.loop.i + 16)) (sym c.same_numbers.ensures ∙ is)
+    same_block a.first.now a.second.now 8 a.size l.loop-i.i 16 c.loop-i-test.true
+    ∙ ap (λ (b : Bool). b && same_from a.first.now a.second.now 8 a.size (l.loop-i.i + 16)) (sym c.same_numbers.ensures ∙ is)
 
-same-numbers-requires : tie.Need-same-numbers-requires invariant-loop decreases-loop
+same-numbers-requires : tie.Need-same_numbers-requires invariant-loop-i decreases-loop-i
 same-numbers-requires c κs = omega arith
 
-loop-again : tie.Need-loop-preserved invariant-loop decreases-loop
+loop-again : tie.Need-loop-i-preserved invariant-loop-i decreases-loop-i
 loop-again c =
     let l = c.before.before.before in
     record {
-      high = c.before.before.loop-test.true;
-      so_far = sym (block c.before true c.if1.true) ∙ l.loop.invariant.so_far;
+      high = c.loop-i-test.true;
+      so_far = sym (block c.before true c.if-same_numbers.true) ∙ l.loop-i.invariant.so_far;
     }
 
-returns : tie.Need-returns invariant-loop decreases-loop
+returns : tie.Need-returns-else-same_numbers invariant-loop-i decreases-loop-i
 returns c =
     let l = c.before.before.before in
-    sym (sym l.loop.invariant.so_far ∙ block c.before false c.if1.false)
+    sym (sym l.loop-i.invariant.so_far ∙ block c.before false c.if-same_numbers.false)
 
-pub same-word-spec : {M : Type 1} → statement M
-same-word-spec =
+pub same_word_spec : {M : Type 1} → statement M
+same_word_spec =
     tie.close
     (tie.spec
-    invariant-loop
-    decreases-loop
+    invariant-loop-i
+    decreases-loop-i
     (λ c.
-    let a = c.before.before.args in
+    let a = c.args in
     record { high = omega arith; so_far = same_start a.first.now a.second.now 8 a.size })
     (λ c. omega arith)
     (λ c. omega arith)
@@ -74,4 +74,4 @@ same-word-spec =
     (λ c. omega arith)
     (λ c. omega arith)
     (λ c κs. omega arith)
-    (λ c. c.same-numbers2.ensures ∙ c.before.before.loop.invariant.so_far))
+    (λ c. c.same_numbers-2.ensures ∙ c.loop-i.invariant.so_far))

@@ -9,27 +9,26 @@ use Rattle.drawer.proofs.search.found.Statement.{statement}
 use Rattle.drawer.proofs.search.found.Tie as tie
 
 -- the places of this proof
-abbrev searched : tie.After-at → tie.After-search-drawer
-searched c = c.before.before
+abbrev searched : tie.In-Found → tie.After-search_drawer
+searched c = c.before
 
-abbrev start : tie.After-search-drawer → tie.Start
+abbrev start : tie.After-search_drawer → tie.Start
 start c = c.before.before.before
 
 -- the record that search names lies inside the bytes, and its bytes are those handed back
-named : (c : tie.After-at) →
+named : (c : tie.In-Found) →
     let s = start (searched c) in
-    let k = c.at.given.0.1.0 in
+    let k = c.in-Found.at in
     HasRecord k s.args.bytes.now
     × (record_at s.args.bytes.now k ≡ own_bytes (lent s.args.n s.args.m s.args.table.now) (drawer s.args.count s.args.bytes.now))
-named c = own_named _ _ _ _ (sym c.at.given.1 ∙ (searched c).search-drawer.ensures)
+named c = own_named _ _ _ _ (sym c.in-Found.is ∙ (searched c).search_drawer.ensures)
 
-returns : tie.Need-returns
+returns : tie.Need-returns-in_default
 returns c =
-    let told = c.before in
-    own_none _ _ _ _ (sym told.enum_told.given.1 ∙ told.before.before.search-drawer.ensures)
+    own_none _ _ _ _ (sym c.in_default.is ∙ c.search_drawer.ensures)
 
-pub found-spec : {M : Type 1} → statement M
-found-spec =
+pub found_spec : {M : Type 1} → statement M
+found_spec =
     tie.close
     (tie.spec
     (λ c κs. search rules)
@@ -37,5 +36,5 @@ found-spec =
     (λ c. search rules)
     (λ c. refl)
     returns
-    (λ c κs. (named c.before).0)
-    (λ c. c.record_at_lem.ensures.0 ∙ (named c.before.before).1))
+    (λ c κs. (named c).0)
+    (λ c. c.record_at.ensures.0 ∙ (named c.before).1))

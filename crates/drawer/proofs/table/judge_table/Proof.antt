@@ -16,71 +16,71 @@ use Rattle.drawer.proofs.table.judge_table.Statement.{statement}
 use Rattle.drawer.proofs.table.judge_table.Tie as tie
 
 -- the places of this proof
-abbrev header : tie.After-header → tie.After-read-header
-header c = c.before.before
+abbrev header : tie.In-Layout → tie.After-read_header-header
+header c = c.before
 
-abbrev fields : tie.After-read-word → tie.After-header
-fields c = c.before.before.before
+abbrev fields : tie.After-read_word → tie.In-Layout
+fields c = c.before.before
 
-abbrev copied : tie.After-check → tie.After-read-word
+abbrev copied : tie.After-check-judged → tie.After-read_word
 copied c = c.before.before.before
 
 -- the record, and the numbers that its header says
-abbrev bytes_of : tie.After-header → List ℕ
-bytes_of c = (header c).before.before.args.bytes.now
+abbrev bytes_of : tie.In-Layout → List ℕ
+bytes_of c = (header c).args.bytes.now
 
-abbrev size : tie.After-header → ℕ
-size c = c.header.given.0.1.0 * c.header.given.0.1.1.0
+abbrev size : tie.In-Layout → ℕ
+size c = c.in-Layout.n * c.in-Layout.m
 
-header_is : (c : tie.After-header) →
-    let f = c.header.given.0 in
-    Layout f.0 f.1.0 f.1.1.0 ≡ header_of (bytes_of c)
-header_is c = sym c.header.given.1 ∙ (header c).read-header.ensures
+header_is : (c : tie.In-Layout) →
+    let f = c.in-Layout in
+    Layout f.die f.n f.m ≡ header_of (bytes_of c)
+header_is c = sym c.in-Layout.is ∙ (header c).read_header-header.ensures
 
-known : (c : tie.After-header) →
-    let f = c.header.given.0 in
-    Known (bytes_of c) f.0 f.1.0 f.1.1.0
+known : (c : tie.In-Layout) →
+    let f = c.in-Layout in
+    Known (bytes_of c) f.die f.n f.m
 known c = header_known _ _ _ _ (sym (header_is c))
 
-few : (c : tie.After-header) → size c ≤ 1020
+few : (c : tie.In-Layout) → size c ≤ 1020
 few c = (known c).bounds.table_most
 
-word-long : (c : tie.After-read-word) → length c.read_word.new.1.1.0 ≡ 1020
+word-long : (c : tie.After-read_word) → length c.read_word.new.word ≡ 1020
 word-long c = copied_long _ _ _ _ c.read_word.ensures (few (fields c))
 
 -- the word that was copied is the record's table
-word-is : (c : tie.After-read-word) → take (size (fields c)) c.read_word.new.1.1.0 ≡ (filed_in (bytes_of (fields c))).layout.table
+word-is : (c : tie.After-read_word) → take (size (fields c)) c.read_word.new.word ≡ (filed_in (bytes_of (fields c))).layout.table
 word-is c = let k = known (fields c) in copied_table _ _ _ _ c.read_word.ensures (ap₂ ◌*◌ k.is_n k.is_m)
 
-returns : tie.Need-returns
-returns c = table_fault _ _ c.before.read-header.ensures (other_fault _ c.match.keys2)
+returns : tie.Need-returns-in_default
+returns c = table_fault _ _ c.read_header-header.ensures (other_fault _ c.in_default.not-Layout)
 
-read-word-requires : tie.Need-read-word-requires
+read-word-requires : tie.Need-read_word-requires
 unfolding record_size
 read-word-requires c κs =
-    let f = c.before.before in
-    record { few = few f; long = omega (arith, few f, (header f).before.before.requires); room = few f }
+    let f = c.before in
+    record { few = few f; long = omega (arith, few f, (header f).requires); room = few f }
 
-returns-2 : tie.Need-returns-2
+returns-2 : tie.Need-returns-in-Refused
 returns-2 c =
-    let k = c.before.before.before in
+    let k = c.before in
     let w = copied k in
-    check_refused _ _ _ _ (header_is (fields w)) _ (word-is w) _ _ (sym c.before.judged.given.1 ∙ k.check.ensures)
+    check_refused _ _ _ _ (header_is (fields w)) _ (word-is w) _ _ (sym c.in-Refused.is ∙ k.check-judged.ensures)
 
-returns-3 : tie.Need-returns-3
+returns-3 : tie.Need-returns
 returns-3 c =
-    let k = c.before.before in
+    let k = c.before in
     let w = copied k in
-    check_passed _ _ _ _ (header_is (fields w)) _ (word-is w) (passed_accepts _ (sym c.enum_told.given.1 ∙ k.check.ensures))
+    check_passed _ _ _ _ (header_is (fields w)) _ (word-is w) (passed_accepts _ (sym c.in_default-judged.is ∙ k.check-judged.ensures))
 
-pub judge-table-spec : {M : Type 1} → statement M
-judge-table-spec =
+pub judge_table_spec : {M : Type 1} → statement M
+judge_table_spec =
     tie.close
     (tie.spec
     (λ c κs. search rules)
     (λ c. search rules)
     returns
-    (λ c. omega (arith, few c.before))
+    (λ c. omega (arith, few c))
     (λ c. search rules)
     read-word-requires
     (λ c. omega (arith, few (fields c.before), word-long c.before))

@@ -14,63 +14,63 @@ use Rattle.drawer.proofs.table.read_table.Statement.{statement}
 use Rattle.drawer.proofs.table.read_table.Tie as tie
 
 -- the places of this proof
-abbrev judged : tie.After-reading → tie.After-judge-table
-judged c = c.before.before
+abbrev judged : tie.In-Layout → tie.After-judge_table-reading
+judged c = c.before
 
-abbrev tested : tie.After-judge-table → tie.Else2
+abbrev tested : tie.After-judge_table-reading → tie.Else-table-lt1020
 tested c = c.before.before
 
-abbrev start : tie.Else2 → tie.Start
+abbrev start : tie.Else-table-lt1020 → tie.Start
 start c = c.before.before.before.before
 
 -- the reading is a layout
-layout_is : (c : tie.After-reading) →
-    let f = c.reading.given.0 in
+layout_is : (c : tie.In-Layout) →
+    let f = c.in-Layout in
     let r = (start (tested (judged c))).args.bytes.now in
-    reading_of (Layout f.0 f.1.0 f.1.1.0) r ≡ read_table r
+    reading_of (Layout f.die f.n f.m) r ≡ read_table r
 layout_is c =
     let r = (start (tested (judged c))).args.bytes.now in
-    ap (λ (h : Reading). reading_of h r) (sym c.reading.given.1) ∙ (judged c).judge-table.ensures
+    ap (λ (h : Reading). reading_of h r) (sym c.in-Layout.is) ∙ (judged c).judge_table-reading.ensures
 
-small : (c : tie.After-reading) → c.reading.given.0.1.0 * c.reading.given.0.1.1.0 ≤ 1020
+small : (c : tie.In-Layout) → c.in-Layout.n * c.in-Layout.m ≤ 1020
 unfolding map_of
 small c = let l = layout_read _ _ _ _ (layout_is c) in rw (l.1, l.2) l.0.bounds.table_most
 
-long : tie.Need-die-of-requires
+long : tie.Need-die_of-die-requires
 unfolding record_size
-long c κs = c.before.if1.false
+long c κs = c.if-bytes-ne2048.false
 
-returns-3 : tie.Need-returns-3
+returns-3 : tie.Need-returns-in_default
 returns-3 c =
     let j = c.before in
     let t = tested j in
-    read_fault _ _ t.before.if1.left t.if2.left _ _ j.before.die-of.ensures j.judge-table.ensures (other_fault _ c.match.keys2)
+    read_fault _ _ t.if-bytes-ne2048.false t.if-table-lt1020.false _ _ j.die_of-die.ensures j.judge_table-reading.ensures (other_fault _ c.in_default.not-Layout)
 
-read-word-requires : tie.Need-read-word-requires
+read-word-requires : tie.Need-read_word-requires
 read-word-requires c κs =
-    let f = c.before.before in
+    let f = c.before in
     let t = tested (judged f) in
-    record { few = small f; long = omega (arith, small f, t.before.if1.left); room = omega (arith, small f, t.if2.left) }
+    record { few = small f; long = omega (arith, small f, t.if-bytes-ne2048.false); room = omega (arith, small f, t.if-table-lt1020.false) }
 
-returns-4 : tie.Need-returns-4
+returns-4 : tie.Need-returns
 returns-4 c =
     let w = c.before.before in
-    let f = w.before.before.before in
+    let f = w.before.before in
     let j = judged f in
     let t = tested j in
-    read_whole _ _ t.before.if1.left t.if2.left _ _ _ _ j.before.die-of.ensures (layout_is f) _ w.read_word.ensures
+    read_whole _ _ t.if-bytes-ne2048.false t.if-table-lt1020.false _ _ _ _ j.die_of-die.ensures (layout_is f) _ w.read_word.ensures
 
-pub read-table-spec : {M : Type 1} → statement M
-read-table-spec =
+pub read_table_spec : {M : Type 1} → statement M
+read_table_spec =
     tie.close
     (tie.spec
-    (λ c. unread_long _ _ c.if1.true)
-    (λ c. unread_room _ _ c.before.if1.false c.if2.true)
+    (λ c. unread_long _ _ c.if-bytes-ne2048.true)
+    (λ c. unread_room _ _ c.if-bytes-ne2048.false c.if-table-lt1020.true)
     long
     (λ c κs. long c.before κs)
     (λ c. search rules)
     returns-3
-    (λ c. omega (arith, small c.before))
+    (λ c. omega (arith, small c))
     read-word-requires
     (λ c. search rules)
     returns-4)

@@ -6,29 +6,29 @@ use Rattle.drawer.proofs.Writing.{Putting, putting_start, putting_turn, laid_don
 use Rattle.drawer.proofs.write.put.Statement.{statement}
 use Rattle.drawer.proofs.write.put.Tie as tie
 
-abbrev invariant-loop : tie.invariant-loop
-invariant-loop filed₀ at size x rest₀ i₀ filed rest i = Putting filed₀ at size x filed rest i
+abbrev invariant-loop-i : tie.invariant-loop-i
+invariant-loop-i filed₀ at size x rest₀ i₀ filed rest i = Putting filed₀ at size x filed rest i
 
-abbrev decreases-loop : tie.decreases-loop
-decreases-loop filed₀ at size x rest₀ i₀ filed rest i = size - i
+abbrev decreases-loop-i : tie.decreases-loop-i
+decreases-loop-i filed₀ at size x rest₀ i₀ filed rest i = size - i
 
-loop-again : tie.Need-loop-preserved invariant-loop decreases-loop
+loop-again : tie.Need-loop-i-preserved invariant-loop-i decreases-loop-i
 loop-again c =
-    let pre = c.before.before.requires in
-    putting_turn c.before.loop.invariant (rw pre.long pre.room) c.loop-test.true
+    let pre = c.requires in
+    putting_turn c.loop-i.invariant (rw pre.long pre.room) c.loop-i-test.true
 
-returns : tie.Need-returns invariant-loop decreases-loop
+returns : tie.Need-returns invariant-loop-i decreases-loop-i
 returns c =
-    let pre = c.before.before.requires in
-    laid_done c.before.loop.invariant.laid (rw pre.long pre.room) c.loop-test.false
+    let pre = c.requires in
+    laid_done c.loop-i.invariant.laid (rw pre.long pre.room) c.loop-i-test.false
 
 pub put_spec : {M : Type 1} → statement M
 unfolding record_size
 put_spec =
     tie.close
     (tie.spec
-    invariant-loop
-    decreases-loop
+    invariant-loop-i
+    decreases-loop-i
     (λ c. putting_start _ _ _ _)
     (λ c. omega arith)
     (λ c. omega arith)

@@ -8,37 +8,37 @@ use Rattle.drawer.proofs.Writing.{PuttingWord, begun_long, word_start, word_turn
 use Rattle.drawer.proofs.write.put_word.Statement.{statement}
 use Rattle.drawer.proofs.write.put_word.Tie as tie
 
-abbrev invariant-loop : tie.invariant-loop
-invariant-loop filed₀ word size i₀ filed i = PuttingWord filed₀ word size filed i
+abbrev invariant-loop-i : tie.invariant-loop-i
+invariant-loop-i filed₀ word size i₀ filed i = PuttingWord filed₀ word size filed i
 
-abbrev decreases-loop : tie.decreases-loop
-decreases-loop filed₀ word size i₀ filed i = size - i
+abbrev decreases-loop-i : tie.decreases-loop-i
+decreases-loop-i filed₀ word size i₀ filed i = size - i
 
 -- the place of this proof: a turn begins
-abbrev at_turn : (c : tie.After-wide invariant-loop decreases-loop) → tie.In-loop invariant-loop decreases-loop
-at_turn c = c.before.before.before
+abbrev at_turn : (c : tie.After-wide invariant-loop-i decreases-loop-i) → tie.In-loop-i invariant-loop-i decreases-loop-i
+at_turn c = c.before.before.before.before
 
-put-requires : tie.Need-put-requires invariant-loop decreases-loop
+put-requires : tie.Need-put-requires invariant-loop-i decreases-loop-i
 unfolding record_size
 put-requires c κs =
     let at-loop = (at_turn c).before in
-    record { room = omega arith; long = begun_long at-loop.loop.inv.begun (omega arith) ∙ at-loop.before.pre.long }
+    record { room = omega arith; long = begun_long at-loop.loop-i.invariant.begun (omega arith) ∙ at-loop.requires.long }
 
-loop-again : tie.Need-loop-preserved invariant-loop decreases-loop
+loop-again : tie.Need-loop-i-preserved invariant-loop-i decreases-loop-i
 loop-again c =
     let turn = at_turn c.before in
-    word_turn turn.before.loop.inv _ c.before.wide.ensures turn.loop-test.taken (omega arith) c.put.ensures
+    word_turn turn.loop-i.invariant _ c.wide.ensures turn.loop-i-test.true (omega arith) c.put.ensures
 
-returns : tie.Need-returns invariant-loop decreases-loop
-returns c = word_done c.before.loop.invariant c.loop-test.false
+returns : tie.Need-returns invariant-loop-i decreases-loop-i
+returns c = word_done c.loop-i.invariant c.loop-i-test.false
 
-pub put-word-spec : {M : Type 1} → statement M
+pub put_word_spec : {M : Type 1} → statement M
 unfolding record_size
-put-word-spec =
+put_word_spec =
     tie.close
     (tie.spec
-    invariant-loop
-    decreases-loop
+    invariant-loop-i
+    decreases-loop-i
     (λ c. word_start _ _ _ (omega arith))
     (λ c. omega arith)
     (λ c. omega arith)

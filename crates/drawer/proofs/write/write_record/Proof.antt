@@ -12,33 +12,33 @@ use Rattle.drawer.proofs.write.write_record.Tie as tie
 abbrev start : tie.After-put → tie.Start
 start c = c.before.before
 
-abbrev after-die : tie.After-put2 → tie.After-put
+abbrev after-die : tie.After-put-2 → tie.After-put
 after-die c = c.before.before
 
-abbrev after-dimension : tie.After-put3 → tie.After-put2
+abbrev after-dimension : tie.After-put-3 → tie.After-put-2
 after-dimension c = c.before.before
 
-abbrev after-darts : tie.After-put-word → tie.After-put3
+abbrev after-darts : tie.After-put_word → tie.After-put-3
 after-darts c = c.before.before
 
 -- what stands in the record after the die, after n and after m
-die-stands : (c : tie.After-put) → Begun (to_bytes 4 (start c).args.die) 4 blank c.put.new.0
+die-stands : (c : tie.After-put) → Begun (to_bytes 4 (start c).args.die) 4 blank c.put.new.filed
 die-stands c = begun_number (blank_start (start c).requires.blank) 4 _ c.put.ensures
 
-dimension-stands : (c : tie.After-put2) →
+dimension-stands : (c : tie.After-put-2) →
     let a = (start (after-die c)).args in
-    Begun (to_bytes 4 a.die ++ to_bytes 1 a.n) 5 blank c.put2.new.0
-dimension-stands c = begun_number (die-stands (after-die c)) 1 _ c.put2.ensures
+    Begun (to_bytes 4 a.die ++ to_bytes 1 a.n) 5 blank c.put-2.new.filed
+dimension-stands c = begun_number (die-stands (after-die c)) 1 _ c.put-2.ensures
 
-darts-stand : (c : tie.After-put3) →
+darts-stand : (c : tie.After-put-3) →
     let a = (start (after-die (after-dimension c))).args in
-    Begun (to_bytes 4 a.die ++ to_bytes 1 a.n ++ (0 ∷ []) ++ to_bytes 2 a.m) 8 blank c.put3.new.0
+    Begun (to_bytes 4 a.die ++ to_bytes 1 a.n ++ (0 ∷ []) ++ to_bytes 2 a.m) 8 blank c.put-3.new.filed
 unfolding record_size
-darts-stand c = begun_number (blank_pass (dimension-stands (after-dimension c)) (omega arith)) 2 _ c.put3.ensures
+darts-stand c = begun_number (blank_pass (dimension-stands (after-dimension c)) (omega arith)) 2 _ c.put-3.ensures
 
 put-requires : tie.Need-put-requires
 unfolding record_size
-put-requires c κs = record { room = omega arith; long = blank_long (blank_start c.before.requires.blank) (omega arith) }
+put-requires c κs = record { room = omega arith; long = blank_long (blank_start c.requires.blank) (omega arith) }
 
 put-requires-2 : tie.Need-put-requires-2
 unfolding record_size
@@ -48,7 +48,7 @@ put-requires-3 : tie.Need-put-requires-3
 unfolding record_size
 put-requires-3 c κs = record { room = omega arith; long = blank_long (dimension-stands c.before) (omega arith) }
 
-put-word-requires : tie.Need-put-word-requires
+put-word-requires : tie.Need-put_word-requires
 unfolding record_size
 put-word-requires c κs =
     let pre = (start (after-die (after-dimension c.before))).requires in
@@ -61,7 +61,7 @@ returns c =
     let long = pre.long_word in
     table_put _ _ _ _ (length-take-le _ _ (omega arith)) (darts-stand (after-darts c)) c.put_word.ensures
 
-pub write-record-spec : {M : Type 1} → statement M
-write-record-spec =
+pub write_record_spec : {M : Type 1} → statement M
+write_record_spec =
     tie.close
     (tie.spec put-requires put-requires-2 put-requires-3 (λ c. search rules) put-word-requires returns)

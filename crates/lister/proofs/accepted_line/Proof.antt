@@ -16,13 +16,13 @@ returns c =
     (put_join
     (put_join
     (put_join
-    (put_join at-start.put_last.ensures.0 at-symmetries.put-before.ensures.0)
-    at-m.put-before2.ensures.0)
-    at_n.put-before3.ensures.0)
-    c.put-before4.ensures.0)
+    (put_join at-start.put_last-at_start.ensures.0 at-symmetries.put_before-at_symmetries.ensures.0)
+    at-m.put_before-at_m.ensures.0)
+    at_n.put_before-at_n.ensures.0)
+    c.put_before-at_die.ensures.0)
 
-pub accepted-line-spec : {M : Type 1} → statement M
-accepted-line-spec =
+pub accepted_line_spec : {M : Type 1} → statement M
+accepted_line_spec =
     tie.close
     (tie.spec
     (λ c κs. search rules)

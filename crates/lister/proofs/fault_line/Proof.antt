@@ -16,40 +16,40 @@ use Rattle.lister.proofs.fault_line.Tie as tie
 shown-as : (die k : ℕ) (reading h : Reading) (r : Line) → reading ≡ h → PrintedAs (refused_line die (fault_shown k h)) r → PrintedAs (refused_line die (fault_shown k reading)) r
 shown-as die k reading h r is line = rw is line
 
-returns : tie.Need-returns
+returns : tie.Need-returns-in-Layout
 unfolding shown_reading shown_fault reading_of refused_line accepted refused
-returns c = shown-as _ _ _ _ _ c.enum_told.given.1 c.refused-line.ensures
+returns c = shown-as _ _ _ _ _ c.in-Layout.is c.refused_line.ensures
 
-returns-2 : tie.Need-returns-2
+returns-2 : tie.Need-returns-in-WrongDimension
 unfolding shown_reading shown_fault reading_of refused_line accepted refused
-returns-2 c = shown-as _ _ _ _ _ c.enum-told2.given.1 c.refused-line2.ensures
+returns-2 c = shown-as _ _ _ _ _ c.in-WrongDimension.is c.refused_line-in-WrongDimension.ensures
 
-returns-3 : tie.Need-returns-3
+returns-3 : tie.Need-returns-in-WrongSize
 unfolding shown_reading shown_fault reading_of refused_line accepted refused
-returns-3 c = shown-as _ _ _ _ _ c.enum-told3.given.1 c.refused-line3.ensures
+returns-3 c = shown-as _ _ _ _ _ c.in-WrongSize.is c.refused_line-in-WrongSize.ensures
 
-returns-4 : tie.Need-returns-4
+returns-4 : tie.Need-returns-in-NoDie
 unfolding shown_reading shown_fault reading_of refused_line accepted refused
-returns-4 c = shown-as _ _ _ _ _ c.enum-told4.given.1 c.refused-line4.ensures
+returns-4 c = shown-as _ _ _ _ _ c.in-NoDie.is c.refused_line-in-NoDie.ensures
 
-returns-5 : tie.Need-returns-5
+returns-5 : tie.Need-returns-in-WrongZeroByte
 unfolding shown_reading shown_fault reading_of refused_line accepted refused
-returns-5 c = shown-as _ _ _ _ _ c.enum-told5.given.1 c.refused-line5.ensures
+returns-5 c = shown-as _ _ _ _ _ c.in-WrongZeroByte.is c.refused_line-in-WrongZeroByte.ensures
 
-returns-6 : tie.Need-returns-6
+returns-6 : tie.Need-returns-in-WrongFilling
 unfolding shown_reading shown_fault reading_of refused_line accepted refused
-returns-6 c = shown-as _ _ _ _ _ c.enum-told6.given.1 c.refused-line6.ensures
+returns-6 c = shown-as _ _ _ _ _ c.in-WrongFilling.is c.refused_line-in-WrongFilling.ensures
 
-returns-7 : tie.Need-returns-7
+returns-7 : tie.Need-returns-in-NoMap
 unfolding shown_reading shown_fault reading_of refused_line accepted refused
-returns-7 c = shown-as _ _ _ _ _ c.reading.given.1 c.refused-line7.ensures
+returns-7 c = shown-as _ _ _ _ _ c.in-NoMap.is c.refused_line-in-NoMap.ensures
 
-returns-8 : tie.Need-returns-8
+returns-8 : tie.Need-returns-in-OtherWord
 unfolding shown_reading shown_fault reading_of refused_line accepted refused
-returns-8 c = shown-as _ _ _ _ _ c.enum-told7.given.1 c.refused-line8.ensures
+returns-8 c = shown-as _ _ _ _ _ c.in-OtherWord.is c.refused_line-in-OtherWord.ensures
 
-pub fault-line-spec : {M : Type 1} → statement M
-fault-line-spec =
+pub fault_line_spec : {M : Type 1} → statement M
+fault_line_spec =
     tie.close
     (tie.spec
     (λ c. search rules)

@@ -7,22 +7,22 @@ use Rattle.lister.proofs.Listed.{same_line, from_short, from_record}
 use Rattle.lister.proofs.line_from.Statement.{statement}
 use Rattle.lister.proofs.line_from.Tie as tie
 
-returns : tie.Need-returns
-returns c = same_line _ _ _ (from_short _ _ c.if1.true) c.short-line.ensures
+returns : tie.Need-returns-then-bytes-lt2048
+returns c = same_line _ _ _ (from_short _ _ c.if-bytes-lt2048.true) c.short_line.ensures
 
-record-line-requires : tie.Need-record-line-requires
+record-line-requires : tie.Need-record_line-requires
 unfolding record_size
-record-line-requires c κs = length-take-le 2048 c.args.bytes.now c.if1.false
+record-line-requires c κs = length-take-le 2048 c.args.bytes.now c.if-bytes-lt2048.false
 
-returns-2 : tie.Need-returns-2
-returns-2 c = same_line _ _ _ (from_record _ _ c.if1.false) c.record_line.ensures
+returns-2 : tie.Need-returns
+returns-2 c = same_line _ _ _ (from_record _ _ c.if-bytes-lt2048.false) c.record_line.ensures
 
-pub line-from-spec : {M : Type 1} → statement M
-line-from-spec =
+pub line_from_spec : {M : Type 1} → statement M
+line_from_spec =
     tie.close
     (tie.spec
     (λ c κs. search rules)
     returns
-    (λ c. sym (length-take-le 2048 c.args.bytes.now c.if1.false))
+    (λ c. sym (length-take-le 2048 c.args.bytes.now c.if-bytes-lt2048.false))
     record-line-requires
     returns-2)

@@ -8,8 +8,8 @@ use Rattle.lister.proofs.put_before.Tie as tie
 returns : tie.Need-returns
 returns c =
     let text = c.before.before in
-    (put_join text.put-text.ensures.0 c.put-decimal.ensures.0, omega (arith, text.put-text.ensures.1, c.put-decimal.ensures.1))
+    (put_join text.put_text-at_space.ensures.0 c.put_decimal.ensures.0, omega (arith, text.put_text-at_space.ensures.1, c.put_decimal.ensures.1))
 
-pub put-before-spec : {M : Type 1} → statement M
-put-before-spec =
+pub put_before_spec : {M : Type 1} → statement M
+put_before_spec =
     tie.close (tie.spec (λ c. search rules) (λ c κs. search rules) (λ c κs. search rules) returns)

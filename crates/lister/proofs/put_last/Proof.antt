@@ -10,8 +10,8 @@ returns : tie.Need-returns
 unfolding spaced
 returns c =
     let text = c.before.before in
-    (put_join text.put-text.ensures.0 c.put-decimal.ensures.0, omega (arith, text.put-text.ensures.1, c.put-decimal.ensures.1))
+    (put_join text.put_text-at_newline.ensures.0 c.put_decimal.ensures.0, omega (arith, text.put_text-at_newline.ensures.1, c.put_decimal.ensures.1))
 
-pub put-last-spec : {M : Type 1} → statement M
-put-last-spec =
+pub put_last_spec : {M : Type 1} → statement M
+put_last_spec =
     tie.close (tie.spec (λ c. search rules) (λ c κs. search rules) (λ c κs. search rules) returns)

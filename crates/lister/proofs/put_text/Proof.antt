@@ -8,31 +8,31 @@ use Rattle.lister.proofs.Printing.{put_laid}
 use Rattle.lister.proofs.put_text.Statement.{statement}
 use Rattle.lister.proofs.put_text.Tie as tie
 
-abbrev invariant-loop : tie.invariant-loop
-invariant-loop line₀ at text start i₀ line i = Laid line₀ start text (length text) line i
+abbrev invariant-loop-i : tie.invariant-loop-i
+invariant-loop-i line₀ at text start i₀ line i = Laid line₀ start text (length text) line i
 
-abbrev decreases-loop : tie.decreases-loop
-decreases-loop line₀ at text start i₀ line i = length text - i
+abbrev decreases-loop-i : tie.decreases-loop-i
+decreases-loop-i line₀ at text start i₀ line i = length text - i
 
 -- the text has room in the array
-room : (l : tie.At-loop invariant-loop decreases-loop) → l.args.at - length l.args.text.now + length l.args.text.now ≤ length l.args.line.now
+room : (l : tie.At-loop-i invariant-loop-i decreases-loop-i) → l.args.at - length l.args.text.now + length l.args.text.now ≤ length l.args.line.now
 room l = let pre = l.requires in omega (arith, pre.free, pre.inside, pre.long)
 
-loop-again : tie.Need-loop-preserved invariant-loop decreases-loop
-loop-again c = let l = c.before.before in laid_turn l.loop.invariant (room l) c.loop-test.true
+loop-again : tie.Need-loop-i-preserved invariant-loop-i decreases-loop-i
+loop-again c = let l = c.before.before.before in laid_turn l.loop-i.invariant (room l) c.loop-i-test.true
 
-returns : tie.Need-returns invariant-loop decreases-loop
+returns : tie.Need-returns invariant-loop-i decreases-loop-i
 returns c =
     let l = c.before in
     let pre = l.requires in
-    (put_laid _ _ _ _ _ (omega (arith, pre.free)) (omega (arith, pre.inside, pre.long)) (laid_done l.loop.invariant (room l) c.loop-test.false), omega (arith, pre.free))
+    (put_laid _ _ _ _ _ (omega (arith, pre.free)) (omega (arith, pre.inside, pre.long)) (laid_done l.loop-i.invariant (room l) c.loop-i-test.false), omega (arith, pre.free))
 
-pub put-text-spec : {M : Type 1} → statement M
-put-text-spec =
+pub put_text_spec : {M : Type 1} → statement M
+put_text_spec =
     tie.close
     (tie.spec
-    invariant-loop
-    decreases-loop
+    invariant-loop-i
+    decreases-loop-i
     (λ c. omega (arith, c.requires.free))
     (λ c. laid_start _ _ _ _ refl)
     (λ c. omega arith)

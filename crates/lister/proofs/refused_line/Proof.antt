@@ -14,12 +14,12 @@ returns c =
     printed _ _
     (put_join
     (put_join
-    (put_join at_place.put_last.ensures.0 at-number.put-before.ensures.0)
-    at-word.put-text.ensures.0)
-    c.put-before2.ensures.0)
+    (put_join at_place.put_last-at_place.ensures.0 at-number.put_before-at_number.ensures.0)
+    at-word.put_text-at_word.ensures.0)
+    c.put_before-at_die.ensures.0)
 
-pub refused-line-spec : {M : Type 1} → statement M
-refused-line-spec =
+pub refused_line_spec : {M : Type 1} → statement M
+refused_line_spec =
     tie.close
     (tie.spec
     (λ c κs. search rules)

@@ -7,20 +7,20 @@ use Rattle.lister.proofs.Printing.{put_join, printed}
 use Rattle.lister.proofs.short_line.Statement.{statement}
 use Rattle.lister.proofs.short_line.Tie as tie
 
-returns : tie.Need-returns
+returns : tie.Need-returns-then-count-eq0
 unfolding short_end
-returns c = simp (eq-eqb c.args.count 0 c.if1.true) (record { begins = refl; printed = refl })
+returns c = simp (eq-eqb c.args.count 0 c.if-count-eq0.true) (record { begins = refl; printed = refl })
 
-returns-2 : tie.Need-returns-2
+returns-2 : tie.Need-returns
 unfolding short_end spaced short_word
 returns-2 c =
     let last = c.before.before.before in
     let some = last.before.before in
-    simp (ne_eqb some.args.count 0 some.if1.false)
-    (printed _ _ (put_join last.put_last.ensures.0 c.put-text.ensures.0))
+    simp (ne_eqb some.args.count 0 some.if-count-eq0.false)
+    (printed _ _ (put_join last.put_last-at_count.ensures.0 c.put_text-at_word.ensures.0))
 
-pub short-line-spec : {M : Type 1} → statement M
-short-line-spec =
+pub short_line_spec : {M : Type 1} → statement M
+short_line_spec =
     tie.close
     (tie.spec
     returns

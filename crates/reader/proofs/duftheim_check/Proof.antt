@@ -6,7 +6,7 @@ use Rattle.reader.proofs.duftheim_check.Statement.{statement}
 use Rattle.reader.proofs.duftheim_check.Tie as tie
 
 returns : tie.Need-returns
-returns c = judged_shown _ (check_whole _) _ c.before.check.ensures _ c.shown.ensures
+returns c = judged_shown _ (check_whole _) _ c.check.ensures _ c.shown.ensures
 
-pub duftheim-check-spec : {M : Type 1} → statement M
-duftheim-check-spec = tie.close (tie.spec (λ c κs. search rules) (λ c κs. search rules) returns)
+pub duftheim_check_spec : {M : Type 1} → statement M
+duftheim_check_spec = tie.close (tie.spec (λ c κs. search rules) (λ c κs. search rules) returns)

@@ -6,7 +6,7 @@ use Rattle.reader.proofs.duftheim_drawer_check.Statement.{statement}
 use Rattle.reader.proofs.duftheim_drawer_check.Tie as tie
 
 returns : tie.Need-returns
-returns c = judged_shown _ (drawer_whole _) _ c.before.check-drawer.ensures _ c.shown.ensures
+returns c = judged_shown _ (drawer_whole _) _ c.check_drawer.ensures _ c.shown.ensures
 
-pub duftheim-drawer-check-spec : {M : Type 1} → statement M
-duftheim-drawer-check-spec = tie.close (tie.spec (λ c κs. search rules) (λ c κs. search rules) returns)
+pub duftheim_drawer_check_spec : {M : Type 1} → statement M
+duftheim_drawer_check_spec = tie.close (tie.spec (λ c κs. search rules) (λ c κs. search rules) returns)

@@ -25,16 +25,16 @@ filed-as {die} {g} {D} {f} files =
       written = files.written;
     }
 
-returns : tie.Need-returns
+returns : tie.Need-returns-in-Filed
 unfolding shown_filing
-returns c = filed-as (rw c.before.filing.given.1 at c.before.before.before.before.before.file-layout.ensures)
+returns c = filed-as (rw c.in-Filed.is at c.file_layout-filing.ensures)
 
-returns-2 : tie.Need-returns-2
+returns-2 : tie.Need-returns-in-Refused
 unfolding shown_filing
-returns-2 c = filed-as (rw c.before.filing2.given.1 at c.before.before.before.before.before.file-layout.ensures)
+returns-2 c = filed-as (rw c.in-Refused.is at c.file_layout-filing.ensures)
 
-pub duftheim-file-spec : {M : Type 1} → statement M
-duftheim-file-spec =
+pub duftheim_file_spec : {M : Type 1} → statement M
+duftheim_file_spec =
     tie.close
     (tie.spec
     (λ c κs. search rules)

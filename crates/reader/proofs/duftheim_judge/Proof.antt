@@ -8,7 +8,7 @@ use Rattle.reader.proofs.duftheim_judge.Tie as tie
 
 returns : tie.Need-returns
 unfolding judge_answer
-returns c = judged_shown _ (in_order-accepts _) _ c.before.judge-list.ensures _ c.shown.ensures
+returns c = judged_shown _ (in_order-accepts _) _ c.judge_list.ensures _ c.shown.ensures
 
-pub duftheim-judge-spec : {M : Type 1} → statement M
-duftheim-judge-spec = tie.close (tie.spec (λ c κs. search rules) (λ c κs. search rules) returns)
+pub duftheim_judge_spec : {M : Type 1} → statement M
+duftheim_judge_spec = tie.close (tie.spec (λ c κs. search rules) (λ c κs. search rules) returns)

@@ -9,8 +9,8 @@ use Rattle.reader.proofs.duftheim_match.Tie as tie
 returns : tie.Need-returns
 unfolding match_answer
 returns c =
-    let matched = c.before.before.before.match-maps.ensures in
+    let matched = c.match_maps-judged.ensures in
     record { answer = judged_shown _ (in_order-accepts _) _ matched.answer _ c.shown.ensures; written = matched.written }
 
-pub duftheim-match-spec : {M : Type 1} → statement M
-duftheim-match-spec = tie.close (tie.spec (λ c κs. search rules) (λ c κs. search rules) (λ c. search rules) returns)
+pub duftheim_match_spec : {M : Type 1} → statement M
+duftheim_match_spec = tie.close (tie.spec (λ c κs. search rules) (λ c κs. search rules) (λ c. search rules) returns)

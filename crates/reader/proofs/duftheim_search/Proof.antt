@@ -23,15 +23,15 @@ found_as {g} {D} {s} answer =
       record_number = ap (λ (a : SearchAnswer). a.at) shown;
     }
 
-returns : tie.Need-returns
+returns : tie.Need-returns-in-Found
 unfolding shown_search
-returns c = found_as (rw c.before.searched.given.1 at c.before.before.before.search-drawer.ensures)
+returns c = found_as (rw c.in-Found.is at c.search_drawer-searched.ensures)
 
-returns-2 : tie.Need-returns-2
+returns-2 : tie.Need-returns-in-Refused
 unfolding shown_search
-returns-2 c = found_as (rw c.before.searched2.given.1 at c.before.before.before.search-drawer.ensures)
+returns-2 c = found_as (rw c.in-Refused.is at c.search_drawer-searched.ensures)
 
-pub duftheim-search-spec : {M : Type 1} → statement M
-duftheim-search-spec =
+pub duftheim_search_spec : {M : Type 1} → statement M
+duftheim_search_spec =
     tie.close
     (tie.spec (λ c κs. search rules) (λ c. search rules) (λ c. search rules) returns returns-2)

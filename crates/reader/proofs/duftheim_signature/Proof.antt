@@ -26,16 +26,16 @@ signed-as {g} {before} {s} signs =
       written = signs.written;
     }
 
-returns : tie.Need-returns
+returns : tie.Need-returns-in-Word
 unfolding shown_signed
-returns c = signed-as (rw c.before.signed.given.1 at c.before.before.before.before.before.signature.ensures)
+returns c = signed-as (rw c.in-Word.is at c.signature-signed.ensures)
 
-returns-2 : tie.Need-returns-2
+returns-2 : tie.Need-returns-in-Refused
 unfolding shown_signed
-returns-2 c = signed-as (rw c.before.signed2.given.1 at c.before.before.before.before.before.signature.ensures)
+returns-2 c = signed-as (rw c.in-Refused.is at c.signature-signed.ensures)
 
-pub duftheim-signature-spec : {M : Type 1} → statement M
-duftheim-signature-spec =
+pub duftheim_signature_spec : {M : Type 1} → statement M
+duftheim_signature_spec =
     tie.close
     (tie.spec
     (λ c κs. search rules)

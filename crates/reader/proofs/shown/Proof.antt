@@ -6,13 +6,13 @@ use Rattle.maps.specs.Answer.{verdict_of}
 use Rattle.reader.proofs.shown.Statement.{statement}
 use Rattle.reader.proofs.shown.Tie as tie
 
-returns : tie.Need-returns
+returns : tie.Need-returns-in-Passed
 unfolding verdict_of accepted
-returns c = rw c.enum_told.given.1 (record { number = refl; place = refl })
+returns c = rw c.in-Passed.is (record { number = refl; place = refl })
 
-returns-2 : tie.Need-returns-2
+returns-2 : tie.Need-returns-in-Refused
 unfolding verdict_of refused
-returns-2 c = rw c.before.judged.given.1 (record { number = refl; place = refl })
+returns-2 c = rw c.in-Refused.is (record { number = refl; place = refl })
 
-pub shown-spec : {M : Type 1} → statement M
-shown-spec = tie.close (tie.spec (λ c. search rules) (λ c. search rules) returns returns-2)
+pub shown_spec : {M : Type 1} → statement M
+shown_spec = tie.close (tie.spec (λ c. search rules) (λ c. search rules) returns returns-2)

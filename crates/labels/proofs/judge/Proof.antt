@@ -1,4 +1,5 @@
 -- `labels::judge` meets its contract: what rules 1 to 8 refuse goes straight back, and the rest is judged by rule 9. Assumes nothing.
+use Prim.Native.Nat.{◌<◌}
 use mathlib.Core.Path.{◌≡◌, refl, sym, ◌∙◌}
 use mathlib.Core.Bool.{true}
 use native.Mathlib.Omega.{arith}
@@ -36,21 +37,6 @@ not-reached-requires c κs =
     let left = sewing_clear _ _ (sewing_whole _ _ (accepting passed)) in
     (record { shaped = left.0; within = left.1.to_darts; backs = (judged passed).judge-judged.ensures.backs ∙ simp (accepting passed) }, refl)
 
-returns-2 : tie.Need-returns-then-place-eq0
-returns-2 c =
-    let passed = told c.before in
-    let none = nine_none _ _ (accepting passed) (sym c.before.not_reached-place.ensures.0 ∙ c.if-place-eq0.true) in
-    record {
-      answer = as_passed (none ∙ sewing_whole _ _ (accepting passed)) refl ((judged passed).judge-judged.ensures.backs ∙ simp (accepting passed));
-      blank = c.before.not_reached-place.ensures.1;
-    }
-
-returns-3 : tie.Need-returns
-returns-3 c =
-    let passed = told c.before.before in
-    let nine = c.before.before.not_reached-place.ensures in
-    record { answer = as_refused 9 _ (omega arith) (nine_refused _ _ (accepting passed) _ nine.0 c.before.if-place-eq0.false) refl refl; blank = nine.1 }
-
 pub judge_spec : {M : Type 1} → statement M
 judge_spec =
     tie.close
@@ -60,5 +46,16 @@ judge_spec =
     (λ c. search rules)
     returns
     not-reached-requires
-    returns-2
-    returns-3)
+    (λ c.
+    let passed = told c.before in
+    let zero : c.not_reached-place.result ≡ 0 = omega arith in
+    let none = nine_none _ _ (accepting passed) (sym c.not_reached-place.ensures.0 ∙ zero) in
+    record {
+      answer = as_passed (none ∙ sewing_whole _ _ (accepting passed)) refl ((judged passed).judge-judged.ensures.backs ∙ simp (accepting passed));
+      blank = c.not_reached-place.ensures.1;
+    })
+    (λ c.
+    let passed = told c.before.before in
+    let nine = c.not_reached-place.ensures in
+    let some : 0 < c.not_reached-place.result = omega arith in
+    record { answer = as_refused 9 _ (omega arith) (nine_refused _ _ (accepting passed) _ nine.0 (λ z. absurd (omega arith))) refl refl; blank = nine.1 }))

@@ -28,6 +28,6 @@ passed_over_spec =
     (λ c. omega (arith, inside c.before))
     (λ c. omega (arith, inside c.before.before))
     (λ c κs. search rules)
-    (λ c. over_passes _ _ _ _ (omega (arith, read c.before, c.if-wide-ne0.true)))
+    (λ c. over_passes _ _ _ _ (omega (arith, read c.before)))
     (λ c κs. c.requires)
-    (λ c. ap (ltb _) c.rank.ensures ∙ rank_passes _ _ _ _ (omega (arith, read c.before.before, c.if-wide-ne0.false))))
+    (λ c. ap (ltb _) c.rank.ensures ∙ rank_passes _ _ _ _ (omega (arith, read c.before.before))))

@@ -66,13 +66,10 @@ try-start-requires c κs =
       long_word = r.long_word;
     }
 
-returns : tie.Need-returns-then-rows-m
-returns c =
-    let t = c.before.before.before.before in
-    spelt-out t.requires t.if-rows-m.true c.try_start.ensures
-
-returns-2 : tie.Need-returns-else-rows-m
-returns-2 c = spelt-already c.requires c.if-rows-m.false
-
 pub spell_out_spec : {M : Type 1} → statement M
-spell_out_spec = tie.close (tie.spec try-start-requires returns returns-2)
+spell_out_spec =
+    tie.close
+    (tie.spec
+    try-start-requires
+    (λ c. spelt-out c.requires (omega arith) c.try_start.ensures)
+    (λ c. spelt-already c.requires (omega arith)))

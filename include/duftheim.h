@@ -19,7 +19,7 @@
    What a call needs
      Processor   x86-64 with SSE2 and no later extension, and the System V calling convention (that of Linux): a size_t has 8
                  bytes. The code uses the 128 bytes below the stack pointer (the red zone), which interrupts must leave alone.
-     Stack       6 to 23 KB. All working room is on the stack; none is lent by you, and none allocated. The bytes for each call
+     Stack       6 to 25 KB. All working room is on the stack; none is lent by you, and none allocated. The bytes for each call
                  are DUFTHEIM_STACK_.. below.
      To link     memcpy and memset, as the C library has them, and nothing else.
      Variables   none. No call keeps a pointer or anything else, so calls may run at the same time on buffers of their own, and
@@ -50,13 +50,13 @@
 
 /* The stack that each call needs, in bytes, with its own return address. What memcpy and memset need beyond theirs comes on top,
    and so does what an interrupt pushes. */
-#define DUFTHEIM_STACK_CHECK 6448
-#define DUFTHEIM_STACK_JUDGE 6480
-#define DUFTHEIM_STACK_MATCH 12656
-#define DUFTHEIM_STACK_SIGNATURE 18928
-#define DUFTHEIM_STACK_DRAWER_CHECK 16864
-#define DUFTHEIM_STACK_FILE 23056
-#define DUFTHEIM_STACK_SEARCH 23072
+#define DUFTHEIM_STACK_CHECK 6376
+#define DUFTHEIM_STACK_JUDGE 6392
+#define DUFTHEIM_STACK_MATCH 12552
+#define DUFTHEIM_STACK_SIGNATURE 20856
+#define DUFTHEIM_STACK_DRAWER_CHECK 16664
+#define DUFTHEIM_STACK_FILE 25000
+#define DUFTHEIM_STACK_SEARCH 25016
 
 /* Bytes of a record, and records of a full drawer. */
 #define DUFTHEIM_RECORD_SIZE 2048

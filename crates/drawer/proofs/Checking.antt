@@ -1,7 +1,7 @@
 -- The laws behind the drawer check's functions: a record inside the bytes, records passed one by one, and a bad record.
 --     record_part           record k, as a part of the bytes
 --     within_fewer          fewer records lie inside the bytes too
---     Passing, passing-..   the records before k have not passed a test
+--     Passing, passing_..   the records before k have not passed a test
 --     passing_hit, passing_none
 --                           so the least that passes is k, or there is none
 --     bad_read, bad_die, bad_else

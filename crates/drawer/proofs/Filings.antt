@@ -3,8 +3,8 @@
 --     answer_accepts, answer_refuses          number 0 says that it is accepted
 --     record_at_front, record_at_seam, record_at_cut
 --                                             a record of the first of two lists, the one after it, and one before a cut
---     written, written-..                     bytes with a record written over them
---     filed_bytes_lem, filed_count, kept-..   what an accepted filing leaves
+--     written, written_..                     bytes with a record written over them
+--     filed_bytes_lem, filed_count, kept_..   what an accepted filing leaves
 --     stays_good                              a good drawer
 --     refused_bytes                           what a refused one leaves
 -- Assumes nothing.

@@ -9,7 +9,7 @@
 --     table_fault, record_fault        so a fault of the header goes straight back
 --     header_low, .. header_whole      a header, by the tests that led to it
 --     header_known                     what a header with its fields says of its record: `Known`
---     same_from, same-..               two lists of numbers are the same from an index on
+--     same_from, same_..               two lists of numbers are the same from an index on
 --     table_is, copied_table           the table of a record, as its bytes say and as it was copied
 --     layout_parted_m, layout_parted_n, layout_by_word
 --                                      two layouts, by m, by n and by their words

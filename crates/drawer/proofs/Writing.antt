@@ -1,10 +1,10 @@
 -- The laws behind writing: bytes laid one by one, numbers put one behind the other, and the record of a map's signature.
---     Laid, laid-..         bytes laid into a list from an index on
---     Putting, putting-..   the bytes of a number laid, and what of the number is left
---     Begun, begun-..       a list begun anew, with what stood there behind
+--     Laid, laid_..         bytes laid into a list from an index on
+--     Putting, putting_..   the bytes of a number laid, and what of the number is left
+--     Begun, begun_..       a list begun anew, with what stood there behind
 --     table_bytes_suc       one number more of a word
---     PuttingWord, word-..  a word put number by number
---     blank, blank-..       a record of zeros, begun anew
+--     PuttingWord, word_..  a word put number by number
+--     blank, blank_..       a record of zeros, begun anew
 --     table_put             the record is whole once its word is put
 --     room_enough           an output with room for every word is as good as none
 --     made_refused, made_passed

@@ -1,13 +1,13 @@
 -- The laws of `specs/Queue.antt`: labels, and the queue while darts are visited and served.
 --     label_in_le, nth-label_in                  a label is a place, and the dart placed there
 --     nth_labelled, label_in_none, none_label_in  a label is 0 exactly when the dart placed nowhere
---     labelIn-append-.., labelIn-snoc-..         labels when darts are put at the end
---     Grown q q'                                 q' is q with more at its end: labels and places stay (`grown-..`)
+--     label_in-append_.., label_in_snoc_..       labels when darts are put at the end
+--     Grown q q'                                 q' is q with more at its end: labels and places stay (`grown_..`)
 --     Visited q d                                what a visit does, as a sum to take apart
---     tried-..                                   a serving under way: β0 to βk have been tried
+--     tried_..                                   a serving under way: β0 to βk have been tried
 --     serve_labels                               once d is served, what is sewn to it has a label
 --     served_still, served_labelling             past the queue's end nothing changes: there the labelling is done
---     ..-queue                                   q holds darts of M alone, and none twice (`DartsOnce`): what keeps it
+--     .._queue                                   q holds darts of M alone, and none twice (`DartsOnce`): what keeps it
 --     queue_short, queue_room                    it is no longer than there are darts
 --     served_ahead, served_next                  a dart is labelled before its turn to be served
 --     labelling_closed                           what is sewn to a labelled dart has a label

@@ -1,6 +1,6 @@
 -- The laws behind a line: a number's digits, text put before text, and the whole line.
 --     decimal_one, decimal_more     the digits of a number below 10, and of any other
---     Digits, digits-..             a number's digits put one by one, from the last
+--     Digits, digits_..             a number's digits put one by one, from the last
 --     put_laid, put_join            text put at once, and before text that was put
 --     printed                       what was put before the end of an array of zeros is the line
 -- Assumes nothing.

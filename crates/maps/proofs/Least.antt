@@ -8,7 +8,7 @@
 --     least_none, none_least      it is 0 exactly when none passes
 --     least_is                    the one that passes while no lower one does
 --     least_cong                  tests that agree have the same least
---     passed-..                   a search that goes from 1 upwards
+--     passed_..                   a search that goes from 1 upwards
 --     count_hit, count_miss       how many pass, at one number more
 --     count_le, count_passed      how many pass: at most k, and at least 1 where one is known to pass
 -- Assumes nothing.

@@ -3,7 +3,7 @@
 --     place_low, place_below               an entry's place, and those of the entries of lower darts
 --     place_says                           the places that break a rule are those of the entries that do
 --     low_of_low, spoken                   no rule is broken by a sewing below the least that it speaks of
---     unanswered-.., parted-..             how the tests of 7 and 8 come out, by what the sewings are
+--     unanswered_.., parted_..             how the tests of 7 and 8 come out, by what the sewings are
 --     clash_entry, clash_none              rule 6, judged dart by dart
 --     Kept, wrong_entry_none               no entry breaks a rule, exactly when it finds no wrong one
 --     wrong_entry_row, wrong_entry_rows    the wrong entry, searched for row by row

@@ -1,7 +1,7 @@
 -- The laws of `specs/Sign.antt`: what `signature` answers, from the verdict on its table and output.
 --     take-replicate           the first of equal numbers
 --     over_front, over_long    what is written over a list stands in front, and keeps its length
---     Shown, shown-..          numbers copied one by one
+--     Shown, shown_..          numbers copied one by one
 --     signed_refused           a refusal: its number and place, and the output as it was
 --     length-signature         a signature has n·m numbers
 --     signed_run               what the run has found, copied to the output, is the answer

@@ -9,7 +9,7 @@ mod print;
 mod read;
 
 use std::io;
-use std::io::{BufWriter, Input, Read, Write};
+use std::io::{Input, Read, Write};
 use words::Signed;
 
 fn copy(out: &mut impl Write, line: &[u8]) -> io::Result<()> {
@@ -157,10 +157,8 @@ fn take_all(
     Ok(())
 }
 
-// A reading or a writing that fails ends the program with its error, and so does want of memory for the output's buffer.
+// A reading or a writing that fails ends the program with its error.
 fn main(rt: HostRuntime) -> io::Result<()> {
     let mut line = [0u8; 131072];
-    let mut out = BufWriter::new(rt.alloc(), io::writer(&rt))?;
-    take_all(&mut out, &mut rt.reader(), &mut line)?;
-    out.flush()
+    take_all(&mut io::writer(&rt), &mut rt.reader(), &mut line)
 }

@@ -1,5 +1,7 @@
 // The cases of two maps, `match` and `judge`.
 use crate::{print, read};
+use std::io;
+use std::io::Write;
 
 // What is asked of two maps: to match them, with the list as the output, or to judge the list.
 #[derive(Clone, Copy)]
@@ -9,6 +11,7 @@ pub enum Asked {
 }
 
 fn ask(
+    out: &mut impl Write,
     asked: Asked,
     n: usize,
     m: usize,
@@ -17,20 +20,22 @@ fn ask(
     m2: usize,
     table2: &[u16],
     list: &mut [u16],
-) {
+) -> io::Result<()> {
     match asked {
         Asked::Match => {
-            print::judged_start(words::match_maps(n, m, table, n2, m2, table2, list));
-            print::last_list(list);
+            let judged = words::match_maps(n, m, table, n2, m2, table2, list);
+            print::judged_start(out, judged)?;
+            print::last_list(out, list)
         }
         Asked::Judge => {
-            print::judged_line(matches::judge_list(n, m, table, n2, m2, table2, list));
+            let judged = matches::judge_list(n, m, table, n2, m2, table2, list);
+            print::judged_line(out, judged)
         }
     }
 }
 
 // Two maps and a list, and nothing after it.
-fn answer(line: &[u8], at: usize, asked: Asked) {
+fn answer(out: &mut impl Write, line: &[u8], at: usize, asked: Asked) -> io::Result<()> {
     let mut table = [0u16; 2048];
     let mut table2 = [0u16; 2048];
     let mut list = [0u16; 2048];
@@ -38,12 +43,13 @@ fn answer(line: &[u8], at: usize, asked: Asked) {
     let two = read::map(line, one.next, &mut table2);
     let last = read::list(line, two.next, &mut list);
     if last.next != line.len() {
-        return print::refuse();
+        return print::refuse(out);
     }
     let length = one.length;
     let length2 = two.length;
     let count = last.value;
     ask(
+        out,
         asked,
         one.n,
         one.m,
@@ -52,15 +58,15 @@ fn answer(line: &[u8], at: usize, asked: Asked) {
         two.m,
         &table2[0..length2],
         &mut list[0..count],
-    );
+    )
 }
 
 // `match N M TABLE N2 M2 TABLE2 OUTPUT`.
-pub(crate) fn answer_match(line: &[u8]) {
-    answer(line, read::word(line, b"match"), Asked::Match);
+pub(crate) fn answer_match(out: &mut impl Write, line: &[u8]) -> io::Result<()> {
+    answer(out, line, read::word(line, b"match"), Asked::Match)
 }
 
 // `judge N M TABLE N2 M2 TABLE2 LIST`.
-pub(crate) fn answer_judge(line: &[u8]) {
-    answer(line, read::word(line, b"judge"), Asked::Judge);
+pub(crate) fn answer_judge(out: &mut impl Write, line: &[u8]) -> io::Result<()> {
+    answer(out, line, read::word(line, b"judge"), Asked::Judge)
 }

@@ -59,10 +59,8 @@ fn byte(line: &[u8], at: usize, b: u8) -> usize {
 // A case starts with its word.
 pub(crate) fn word(line: &[u8], word: &[u8]) -> usize {
     let mut at = 0;
-    let mut i = 0;
-    while i < word.len() {
-        at = byte(line, at, word[i]);
-        i += 1;
+    for b in word {
+        at = byte(line, at, *b);
     }
     at
 }
@@ -177,11 +175,9 @@ fn fill(line: &[u8], before: RunPart, numbers: &mut [u16]) -> RunPart
     requires { before.value ≤ 65535 }
 {
     let mut read = before;
-    let mut i = 0;
-    while i < numbers.len() {
+    for x in numbers.iter_mut() {
         read = again(line, read, 65535);
-        numbers[i] = read.value as u16;
-        i += 1;
+        *x = read.value as u16;
     }
     read
 }
@@ -190,11 +186,9 @@ fn fill_bytes(line: &[u8], before: RunPart, bytes: &mut [u8]) -> RunPart
     requires { before.value ≤ 255 }
 {
     let mut read = before;
-    let mut i = 0;
-    while i < bytes.len() {
+    for x in bytes.iter_mut() {
         read = again(line, read, 255);
-        bytes[i] = read.value as u8;
-        i += 1;
+        *x = read.value as u8;
     }
     read
 }

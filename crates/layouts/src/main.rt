@@ -4,7 +4,8 @@
 ghost use Rattle.std.specs.Prelude.{◌≡◌, ◌+◌, ◌≤◌, length};
 ghost use Rattle.layouts.specs.Reading.{all_read, Partly, Added, Stepped, Status};
 
-use libc::{STDERR_FILENO, STDIN_FILENO, STDOUT_FILENO};
+use std::io::{Input, Read};
+use std::process::ExitCode;
 
 // How far the input is read: so many whole records, and so many bytes of the next.
 #[derive(Clone, Copy)]
@@ -50,74 +51,88 @@ impl Progress {
     }
 }
 
-// Prints the line for bytes handed in as a record, and answers whether all of it was written.
-fn print(number: usize, bytes: &[u8]) -> bool {
+// Says on standard error what went wrong, if that can be said at all.
+fn complain(rt: &impl Eprint, fault: &str) {
+    let _ = rt.eprintln(fault);
+}
+
+// Prints the line for bytes handed in as a record, and answers whether all of it was written. It is handed to the system at once.
+fn print(rt: &(impl Print + Eprint), number: usize, bytes: &[u8]) -> bool {
     let line = lister::line_from(number, bytes);
     let start = line.start;
-    let text = line.bytes;
-    let is_written = io::write_all(STDOUT_FILENO, &text[start..]);
+    let is_written = rt.write_all(&line.bytes[start..]).is_ok();
     if !is_written {
-        io::write_all(STDERR_FILENO, b"layouts: a line cannot be written\n");
+        complain(rt, "layouts: a line cannot be written");
     }
     is_written
 }
 
 // Reads once, whatever count comes, and prints the line of a record that is complete with it.
-fn take_some(buffer: &mut [u8], progress: Progress) -> Step
+fn take_some(
+    rt: &(impl Print + Eprint),
+    input: &mut impl Read,
+    buffer: &mut [u8],
+    progress: Progress,
+) -> Step
     requires { (length buffer.old ≡ 2048) × Partly progress }
     ensures { (length buffer.new ≡ 2048) × Stepped progress result }
 {
     let bytes = progress.bytes;
-    let got = libc::read(STDIN_FILENO, &mut buffer[bytes..]);
-    if got < 0 {
-        io::write_all(STDERR_FILENO, b"layouts: the input cannot be read\n");
+    let Ok(count) = input.read(&mut buffer[bytes..]) else {
+        complain(rt, "layouts: the input cannot be read");
         return Step::Fault;
-    }
-    let count = io::count(got, &buffer[bytes..]);
+    };
     if count == 0 {
         return Step::End;
     }
     let next = progress.add(count);
     let left = next.bytes;
-    if left == 0 && !print(next.records, buffer) {
+    if left == 0 && !print(rt, next.records, buffer) {
         return Step::Fault;
     }
     Step::To(next)
 }
 
 // What is left at the end of the input is a short end, and prints nothing where it is empty.
-fn finish(buffer: &[u8], progress: Progress) -> bool
+fn finish(rt: &(impl Print + Eprint), buffer: &[u8], progress: Progress) -> bool
     requires { (length buffer.now ≡ 2048) × Partly progress }
 {
     let bytes = progress.bytes;
-    print(progress.records + 1, &buffer[0..bytes])
+    print(rt, progress.records + 1, &buffer[0..bytes])
 }
 
 // Answers whether the whole input was read and each line written. Nothing says that the input ends, so the readings are counted
-// down from a number that no run uses up.
-fn list(buffer: &mut [u8]) -> bool
+// up to a number that no run uses up.
+fn list(rt: &(impl Print + Eprint), input: &mut impl Read, buffer: &mut [u8]) -> bool
     requires { length buffer.old ≡ 2048 }
 {
     let mut progress = Progress::start();
-    let mut turns = u64::MAX;
-    while turns > 0 {
-        let next = take_some(buffer, progress);
-        match next {
+    for _turn in 0..u64::MAX {
+        match take_some(rt, input, buffer, progress) {
             Step::To(further) => progress = further,
-            Step::End => return finish(buffer, progress),
+            Step::End => return finish(rt, buffer, progress),
             Step::Fault => return false,
         }
-        turns -= 1;
     }
     false
 }
 
-// The whole program, but for its start: the status with which it is to end. A program of Rattle's own cannot set one, so main.c
-// does.
-#[unsafe(no_mangle)]
-pub extern "C" fn layouts_run() -> i32
+// The whole program: the status with which it is to end.
+pub fn layouts_run(rt: &(impl Input + Print + Eprint)) -> i32
     ensures { Status result }
 {
     let mut buffer = [0u8; 2048];
-    if list(&mut buffer) { 0 } else { 1 }
+    if list(rt, &mut rt.reader(), &mut buffer) {
+        0
+    } else {
+        1
+    }
+}
+
+fn main(rt: HostRuntime) -> ExitCode {
+    if layouts_run(&rt) == 0 {
+        ExitCode::SUCCESS
+    } else {
+        ExitCode::FAILURE
+    }
 }

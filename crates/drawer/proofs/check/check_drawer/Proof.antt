@@ -1,4 +1,5 @@
 -- `drawer::check::check_drawer` meets its contract: the count, then the bytes, then the records. Assumes nothing.
+use Prim.Native.Nat.{◌<◌}
 use mathlib.Core.Path.{sym, ◌∙◌}
 use mathlib.Core.Logic.{inl, inr}
 use borrow.Author.Rules.{rules}
@@ -13,10 +14,7 @@ use Rattle.drawer.proofs.check.check_drawer.Tie as tie
 within : (c : tie.Else-bytes-count) →
     let s = c.before.before.before in
     Within s.args.count s.args.bytes.now
-within c = record { few = c.if-count-gt1024.false; inside = c.if-bytes-count.false }
-
-returns : tie.Need-returns-then-count-gt1024
-returns c = judged_refused 13 0 (omega arith) (checked_over _ _ (inl c.if-count-gt1024.true))
+within c = record { few = omega arith; inside = c.if-bytes-count.false }
 
 returns-2 : tie.Need-returns-then-bytes-count
 returns-2 c = judged_refused 13 0 (omega arith) (checked_over _ _ (inr c.if-bytes-count.true))
@@ -33,4 +31,7 @@ returns-4 c =
 
 pub check_drawer_spec : {M : Type 1} → statement M
 check_drawer_spec =
-    tie.close (tie.spec returns (λ c. search rules) returns-2 (λ c κs. within c) returns-3 returns-4)
+    tie.close (tie.spec
+    (λ c. let over : 1024 < c.args.count = omega arith in judged_refused 13 0 (omega arith) (checked_over _ _ (inl over)))
+    (λ c. search rules)
+    returns-2 (λ c κs. within c) returns-3 returns-4)

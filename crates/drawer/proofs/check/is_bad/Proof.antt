@@ -47,11 +47,6 @@ earlier c = within_fewer _ (start c).requires.within (omega arith)
 returns : tie.Need-returns-in_default
 returns c = sym (bad_read _ _ _ (reading c.before) (other_fault _ c.in_default.not-Layout))
 
-returns-2 : tie.Need-returns-then-first_with_die-ne0
-returns-2 c =
-    let sought = c.before in
-    sym (bad_die _ _ _ _ _ (layout (taken sought)) _ sought.first_with_die.ensures c.if-first_with_die-ne0.true)
-
 -- what is handed on as record k has its word inside
 fits : (c : tie.In-Layout) → Comparable (read c).record_at-filed.result.now
 fits c =
@@ -68,8 +63,9 @@ returns-3 : tie.Need-returns
 returns-3 c =
     let none = c.before in
     let r = read (taken none.before) in
+    let zero : none.first_with_die.result ≡ 0 = omega arith in
     bad_else _ _ _ _ _ (layout (taken none.before))
-    (sym none.if-first_with_die-ne0.false ∙ none.first_with_die.ensures)
+    (sym zero ∙ none.first_with_die.ensures)
     _
     (c.first_with_layout.ensures ∙ ap (λ (x : List ℕ). record_of (filed_in x).layout (drawer ((start r).args.k - 1) (bytes_of r))) r.record_at-filed.ensures.0)
 
@@ -83,7 +79,7 @@ is_bad_spec =
     returns
     (λ c. search rules)
     (λ c κs. earlier (read c))
-    returns-2
+    (λ c. sym (bad_die _ _ _ _ _ (layout (taken c.before)) _ c.first_with_die.ensures (λ none. absurd (omega arith))))
     (λ c. search rules)
     first-with-layout-requires
     returns-3)

@@ -1,6 +1,7 @@
 -- `drawer::table::read_table` meets its contract: a fault leaves the list as it was, and a table is put in front. Assumes nothing.
 use Prim.Native.Nat.{◌*◌, ◌≤◌}
 use mathlib.Core.Path.{◌≡◌, sym, ap, ◌∙◌}
+use lib.ListN.{length}
 use borrow.Author.Rules.{rules}
 use native.Mathlib.Omega.{arith}
 use Rattle.maps.specs.Given.{map_of}
@@ -38,19 +39,20 @@ small c = let l = layout_read _ _ _ _ (layout_is c) in rw (l.1, l.2) l.0.bounds.
 
 long : tie.Need-die_of-die-requires
 unfolding record_size
-long c κs = c.if-bytes-ne2048.false
+long c κs = omega arith
 
 returns-3 : tie.Need-returns-in_default
 returns-3 c =
     let j = c.before in
     let t = tested j in
-    read_fault _ _ t.if-bytes-ne2048.false t.if-table-lt1020.false _ _ j.die_of-die.ensures j.judge_table-reading.ensures (other_fault _ c.in_default.not-Layout)
+    let whole : length t.args.bytes.now ≡ 2048 = omega arith in
+    read_fault _ _ whole t.if-table-lt1020.false _ _ j.die_of-die.ensures j.judge_table-reading.ensures (other_fault _ c.in_default.not-Layout)
 
 read-word-requires : tie.Need-read_word-requires
 read-word-requires c κs =
     let f = c.before in
     let t = tested (judged f) in
-    record { few = small f; long = omega (arith, small f, t.if-bytes-ne2048.false); room = omega (arith, small f, t.if-table-lt1020.false) }
+    record { few = small f; long = omega (arith, small f); room = omega (arith, small f, t.if-table-lt1020.false) }
 
 returns-4 : tie.Need-returns
 returns-4 c =
@@ -58,14 +60,15 @@ returns-4 c =
     let f = w.before.before in
     let j = judged f in
     let t = tested j in
-    read_whole _ _ t.if-bytes-ne2048.false t.if-table-lt1020.false _ _ _ _ j.die_of-die.ensures (layout_is f) _ w.read_word.ensures
+    let whole : length t.args.bytes.now ≡ 2048 = omega arith in
+    read_whole _ _ whole t.if-table-lt1020.false _ _ _ _ j.die_of-die.ensures (layout_is f) _ w.read_word.ensures
 
 pub read_table_spec : {M : Type 1} → statement M
 read_table_spec =
     tie.close
     (tie.spec
-    (λ c. unread_long _ _ c.if-bytes-ne2048.true)
-    (λ c. unread_room _ _ c.if-bytes-ne2048.false c.if-table-lt1020.true)
+    (λ c. unread_long _ _ (λ whole. absurd (omega arith)))
+    (λ c. let whole : length c.args.bytes.now ≡ 2048 = omega arith in unread_room _ _ whole c.if-table-lt1020.true)
     long
     (λ c κs. long c.before κs)
     (λ c. search rules)

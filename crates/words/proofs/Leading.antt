@@ -23,7 +23,7 @@ use native.Mathlib.Nat.{eq-or-lt_of_le}
 use borrow.Author.Tests.{eqb-true, eq-eqb, ltb-true, ltb-false}
 use lib.Dec.{eqb, ltb}
 use lib.ListN.{length, replicate, length-replicate}
-use Rattle.maps.specs.Least.{nth, least, count}
+use Rattle.maps.specs.Least.{nth, count}
 use Rattle.maps.specs.Map.{Map, IsDart}
 use Rattle.maps.specs.Accepted.{Accepted}
 use Rattle.maps.proofs.Least.{Tested, passes, fails, tested, true_not_false, least_is, count_cong}

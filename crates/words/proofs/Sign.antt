@@ -36,7 +36,7 @@ use Rattle.maps.proofs.Verdict.{unless-accepts}
 use Rattle.maps.proofs.Answer.{refused-accepts, refused_is}
 use Rattle.labels.specs.Judging.{table_answer}
 use Rattle.labels.proofs.Judging.{table_shows, table_clear, table_whole}
-use Rattle.words.specs.Words.{signature, start, symmetries}
+use Rattle.words.specs.Words.{signature}
 use Rattle.words.specs.Sign.{SignatureAnswer, signed_of, shown_signed, signature_answer, signature_output, over, SignsAs}
 use Rattle.words.specs.Inside.{Signs}
 use Rattle.words.specs.declared.least_word.Signed.{Signed}

@@ -13,7 +13,7 @@ use Rattle.maps.specs.Map.{IsDart}
 use Rattle.maps.specs.Given.{Given, lent, map_of}
 use Rattle.maps.proofs.Least.{Passed, passed_start, passed_turn, passed_misses}
 use Rattle.maps.proofs.Accepted.{darts_most}
-use Rattle.words.specs.Words.{word, same, less}
+use Rattle.words.specs.Words.{word, less}
 use Rattle.words.specs.Forest.{joined_all, JoinsAll}
 use Rattle.words.specs.FirstRow.{rank_of, passes_over}
 use Rattle.words.specs.Inside.{side_of, is_less, is_same, Tried, Leads}

@@ -8,7 +8,6 @@ use mathlib.Core.List.{List}
 use lib.ListN.{length, take, length-replicate}
 use Rattle.maps.specs.Accepted.{Accepted}
 use Rattle.maps.specs.Given.{Given, lent, map_of, Shaped}
-use Rattle.maps.specs.declared.Output.TheVariants as output
 use Rattle.labels.specs.Queue.{labelling}
 use Rattle.words.specs.Words.{word, same, signature, yields}
 use Rattle.words.specs.Inside.{side_of, is_same, Tried, HeldAs}

@@ -12,7 +12,6 @@ use Rattle.maps.specs.Least.{nth}
 use Rattle.maps.specs.Given.{Given, lent, map_of}
 use Rattle.maps.proofs.Least.{Tested, passes, fails, tested, true_not_false}
 use Rattle.maps.proofs.Accepted.{darts_most}
-use Rattle.words.specs.Words.{word}
 use Rattle.words.specs.FirstRow.{rank_of}
 use Rattle.words.specs.Inside.{is_same, few_rows}
 use Rattle.words.specs.declared.engine.Side.{Side}

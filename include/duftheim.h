@@ -24,12 +24,12 @@
      To link     memcpy and memset, as the C library has them, and nothing else.
      Variables   none. No call keeps a pointer or anything else, so calls may run at the same time on buffers of their own, and
                  on shared ones that none of them writes.
-     Time        Every call returns; there is no bound in seconds. Instructions were counted: for a signature 6 thousand with 7
-                 darts, 0.1 to 0.4 million for most layouts of the largest size, rings, grids and tori among them, and 13
-                 million for the slowest layout tried, a ring of 510 darts with one mark; for a match at most 37 million. A drawer
-                 check judges every record, and so do search and filing each time: 72 million for 1,024 random layouts of 258
-                 darts on the mean, 96 million for rings of 1 to 1,020 darts, but 380 million for 64 rings with marks, the slowest
-                 drawer tried. docs/SPEED.md has all figures.
+     Time        Every call returns; there is no bound in seconds. Instructions were counted, of the library as an older toolchain
+                 compiled it: for a signature 6 thousand with 7 darts, 0.1 to 0.4 million for most layouts of the largest size,
+                 rings, grids and tori among them, and 13 million for the slowest layout tried, a ring of 510 darts with one
+                 mark; for a match at most 37 million. A drawer check judges every record, and so do search and filing each time:
+                 72 million for 1,024 random layouts of 258 darts on the mean, 96 million for rings of 1 to 1,020 darts, but 380
+                 million for 64 rings with marks, the slowest drawer tried. docs/SPEED.md has all figures.
      Answers     are handed back by value. The bytes between the members of a struct are not written: compare members.
 
    That the answers are right is proved, and not only tested; duftheim_record_bytes, below, is plain C. The proof rests on the

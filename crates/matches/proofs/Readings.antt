@@ -245,7 +245,7 @@ unsewn_given M d i z = at (tested (eqb i 1))
 
 -- 01: "Matching an unsewn edge to a sewn one."
 
--- a one_to_one list of images, as a matching is, that is asked to keep the sewn edges alone
+-- a one-to-one list of images, as a matching is, that is asked to keep the sewn edges alone
 pub record WrongMatching (M M' : Map) (f : List ℕ) : Type 0 where
   pub same_dim : M.dim ≡ M'.dim
   pub same_darts : M.darts ≡ M'.darts

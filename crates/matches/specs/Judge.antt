@@ -48,7 +48,7 @@ judge_lines a b f =
     ++ (raised (check_lines b)
     -- 10: "n or m differ"
     ++ (plain 10 (Unlike a b)
-    -- 11: "length other than m, or isn't one_to_one onto 1..m": place "0 for length, else first dart whose value is" wrong
+    -- 11: "length other than m, or isn't one-to-one onto 1..m": place "0 for length, else first dart whose value is" wrong
     ∷ record { number = 11; Holds = λ d. ((d ≡ 0) × (¬ (length f ≡ a.m))) ⊎ (IsDart (map_of a) d × BadImage a.m f d) }
     -- 12: "fails the matching rule above, sewn or unsewn"
     ∷ record { number = 12; Holds = λ d. IsDart (map_of a) d × NotKept (map_of a) (map_of b) f d }

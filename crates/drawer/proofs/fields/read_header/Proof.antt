@@ -1,5 +1,8 @@
 -- `drawer::fields::read_header` meets its contract: the tests are made in the order of the definition. Assumes nothing.
-use mathlib.Core.Path.{sym, ◌∙◌}
+use Prim.Native.Nat.{ℕ, ◌<◌}
+use mathlib.Core.Path.{◌≡◌, sym, ◌∙◌}
+use mathlib.Core.List.{List}
+use lib.ListN.{length, get_or}
 use borrow.Author.Rules.{rules}
 use native.Mathlib.Omega.{arith}
 use native.Mathlib.Nat.{mul-le-mul_right}
@@ -44,20 +47,10 @@ returns-5 c =
     (header_no_die _ _ if1.dimension_of-n.ensures if1.if-n-eq0.false if2.if-n-gt4.false _ if3.darts_of-m.ensures.0 if3.if-m-eq0.false if4.if-n-m-gt1020.false _
     c.die_of-die.ensures c.if-die-eq0.true)
 
-shared-slice-read-if6 : tie.Need-bounds-bytes-5
+-- a record has a sixth byte
+has-byte : (r : List ℕ) → length r ≡ record_size → 5 < length r
 unfolding record_size
-shared-slice-read-if6 c = omega arith
-
-returns-6 : tie.Need-returns-then-bytes-ne0
-returns-6 c =
-    let if5 = c.before.before in
-    let if4 = if5.before.before in
-    let if3 = if4.before in
-    let if2 = if3.before.before in
-    let if1 = if2.before in
-    sym
-    (header_byte _ _ if1.dimension_of-n.ensures if1.if-n-eq0.false if2.if-n-gt4.false _ if3.darts_of-m.ensures.0 if3.if-m-eq0.false if4.if-n-m-gt1020.false _
-    if5.die_of-die.ensures if5.if-die-eq0.false c.if-bytes-ne0.true)
+has-byte r long = omega arith
 
 returns-7 : tie.Need-returns-then-filling_is_zero
 returns-7 c =
@@ -67,9 +60,10 @@ returns-7 c =
     let if3 = if4.before in
     let if2 = if3.before.before in
     let if1 = if2.before in
+    let zero : get_or c.args.bytes.now 5 0 ≡ 0 = omega arith in
     sym
     (header_whole _ _ if1.dimension_of-n.ensures if1.if-n-eq0.false if2.if-n-gt4.false _ if3.darts_of-m.ensures.0 if3.if-m-eq0.false if4.if-n-m-gt1020.false _
-    if5.die_of-die.ensures if5.if-die-eq0.false if6.if-bytes-ne0.false (sym c.filling_is_zero.ensures ∙ c.if-filling_is_zero.true))
+    if5.die_of-die.ensures if5.if-die-eq0.false zero (sym c.filling_is_zero.ensures ∙ c.if-filling_is_zero.true))
 
 returns-8 : tie.Need-returns
 returns-8 c =
@@ -79,9 +73,10 @@ returns-8 c =
     let if3 = if4.before in
     let if2 = if3.before.before in
     let if1 = if2.before in
+    let zero : get_or c.args.bytes.now 5 0 ≡ 0 = omega arith in
     sym
     (header_unfilled _ _ if1.dimension_of-n.ensures if1.if-n-eq0.false if2.if-n-gt4.false _ if3.darts_of-m.ensures.0 if3.if-m-eq0.false if4.if-n-m-gt1020.false _
-    if5.die_of-die.ensures if5.if-die-eq0.false if6.if-bytes-ne0.false (sym c.filling_is_zero.ensures ∙ c.if-filling_is_zero.false))
+    if5.die_of-die.ensures if5.if-die-eq0.false zero (sym c.filling_is_zero.ensures ∙ c.if-filling_is_zero.false))
 
 pub read_header_spec : {M : Type 1} → statement M
 read_header_spec =
@@ -96,8 +91,17 @@ read_header_spec =
     returns-4
     (λ c κs. search rules)
     returns-5
-    shared-slice-read-if6
-    returns-6
+    (λ c. omega (arith, has-byte _ c.requires))
+    (λ c.
+    let if5 = c.before.before in
+    let if4 = if5.before.before in
+    let if3 = if4.before in
+    let if2 = if3.before.before in
+    let if1 = if2.before in
+    let some : get_or c.args.bytes.now 5 0 ≡ 0 → ⊥ = λ zero. absurd (omega arith) in
+    sym
+    (header_byte _ _ if1.dimension_of-n.ensures if1.if-n-eq0.false if2.if-n-gt4.false _ if3.darts_of-m.ensures.0 if3.if-m-eq0.false if4.if-n-m-gt1020.false _
+    if5.die_of-die.ensures if5.if-die-eq0.false some))
     (λ c. search rules)
     (λ c. search rules)
     (λ c. search rules)

@@ -1,6 +1,7 @@
 -- `drawer::search::found` meets its contract: the part of the drawer that search names, or none. Assumes nothing.
 use mathlib.Core.Path.{◌≡◌, refl, sym, ◌∙◌}
 use borrow.Author.Rules.{rules}
+use native.Mathlib.Omega.{arith}
 use Rattle.maps.specs.Given.{lent}
 use Rattle.drawer.specs.Drawer.{drawer, record_at, own_bytes}
 use Rattle.drawer.specs.Inside.{HasRecord}
@@ -36,5 +37,5 @@ found_spec =
     (λ c. search rules)
     (λ c. refl)
     returns
-    (λ c κs. (named c).0)
+    (λ c κs. let h = (named c).0 in record { low = omega (arith, h.low); within = record { few = omega (arith, h.low, h.within.few); inside = omega (arith, h.low, h.within.inside) } })
     (λ c. c.record_at.ensures.0 ∙ (named c.before).1))

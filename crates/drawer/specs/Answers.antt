@@ -1,7 +1,7 @@
 -- What the calls answer, by the types of `src/`, and what they leave in what they are lent.
---     reading_of h r             the reading of the record r that an answer stands for
+--     reading_of h r            the reading of the record r that an answer stands for
 --     read_for                  the answer of `src/` for a reading
---     entry_of, ReadsAs          what `read_table` answers and leaves in the list that it is lent
+--     entry_of, ReadsAs         what `read_table` answers and leaves in the list that it is lent
 --     search_of, shown_search   the answer of `src/` for the numbers of a search, and its numbers
 --     filing_of, shown_filing   the same for a filing
 --     FilesAs                   what `file_layout` answers and leaves in the drawer

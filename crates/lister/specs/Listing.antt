@@ -4,7 +4,7 @@
 --     shown_fault k f    the number and place for the fault f of record k
 --     accepted_line, refused_line
 --                        the two kinds of line of a record
---     line_of k r         the line for record k, whose bytes are r
+--     line_of k r        the line for record k, whose bytes are r
 --     short_end k        what a short end of k bytes prints
 --     line_from k bytes  the line for bytes handed in as record k: a record's, or a short end's
 --     listing bytes      the whole output

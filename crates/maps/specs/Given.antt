@@ -1,7 +1,7 @@
 -- What a caller lends as a map, and the map that it writes down (01, "Numbers that bound the work").
 --     Given           n, m and a dart table
 --     lent n m t      the same, from its parts
---     place_of         the place of an entry in the table
+--     place_of        the place of an entry in the table
 --     map_of g        the map that g writes down
 --     Shaped g        what numbers 1, 2 and 3 leave: in bounds, and a table of the right length
 -- Assumes nothing.

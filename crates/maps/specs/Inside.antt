@@ -2,7 +2,7 @@
 --     InTable g i        βi is a sewing of a table in shape
 --     Blank g back       a table in shape that rule 5 has passed, and an array of zeros for β0
 --     BackAs             rule 6 judged while β0 is found
---     rule_of, low_of     the rule that a `Law` stands for, and the least sewing that it speaks of
+--     rule_of, low_of    the rule that a `Law` stands for, and the least sewing that it speaks of
 --     wrong_sewing       the least sewing of a dart that breaks a rule, or 0
 -- Assumes nothing.
 use Rattle.std.specs.Prelude.{ℕ, ◌≤◌, ◌≡◌, List, replicate}

@@ -1,6 +1,6 @@
 -- Numbers counted from 1: places of a list, the first numbers, and the least of them that passes a test.
 --     nth xs p      what stands at place p of xs: 0 at place 0 and past the end
---     up_to k        1, 2, .. k
+--     up_to k       1, 2, .. k
 --     least k p     the least number from 1 to k that passes p, or 0 where none does
 --     some k p      one of the numbers from 1 to k passes p
 --     count k p     how many of the numbers from 1 to k pass p

@@ -1,7 +1,7 @@
 -- What the display shows: a number and a place (01, "Numbers the display can show").
 --     Verdict          a number and a place: 0 and 0 for accepted
 --     unless b k p     accepted where the test b passes, else number k at place p
---     at_least k p      accepted where p is 0, else number k at place p
+--     at_least k p     accepted where p is 0, else number k at place p
 --     in_order vs      the first of the verdicts that refuses
 --     of_second v      v as a verdict on a second map
 -- Assumes nothing.

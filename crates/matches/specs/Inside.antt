@@ -2,7 +2,7 @@
 --     Listed m f           a list of m numbers, which an array of 1,020 has room for
 --     Alike a b            two tables in shape, the first of which leads to darts alone
 --     Imaged a b f         the same, with a list of darts for their images; `ImagedAt` of one of its darts
---     parts_at a b f d      some βi of dart d is not kept
+--     parts_at a b f d     some βi of dart d is not kept
 --     not_kept a b f       the least dart of which this holds, or 0
 --     judge_images a b f   11 and 12; `images_judged` by the types of `src/`
 -- Assumes nothing.

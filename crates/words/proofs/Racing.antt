@@ -1,5 +1,5 @@
 -- The labelling of a start while its word is judged: which queue the arrays hold, and that the number judged is the word's.
---     turn_of M d k               the dart whose turn it is once k darts are served
+--     turn_of M d k              the dart whose turn it is once k darts are served
 --     turn_dart, turn_label      it is a dart, the one labelled k + 1
 --     row_number                 the label just met is the word's number at its place
 --     row_good                   the queue holds darts alone, none twice

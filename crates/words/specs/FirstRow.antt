@@ -1,7 +1,7 @@
 -- The first row of a start's word, as far as it can be read off the sewings of the start itself. For the functions inside: no
 -- public contract cites this file.
 --     first_label d back next    the label of β1(d) in the labelling from d
---     rank_of M d                 twice that, and one more where d is 2-sewn: a start of a lesser rank has a lesser word
+--     rank_of M d                twice that, and one more where d is 2-sewn: a start of a lesser rank has a lesser word
 --     Ranks                      the rank of a start may be asked
 --     LeastRank M r              r is the least rank of all starts
 --     passes_over M up r d       d need not be tried: a dart is over it, which has its word, or its rank is above r

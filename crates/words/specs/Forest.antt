@@ -1,6 +1,6 @@
 -- What `src/` keeps of the darts that are known to have one word: a forest, in which `up` has at place d the dart over d, a lesser
 -- one, or 0 over the top of a tree. For the functions inside: no public contract cites this file.
---     top_of up d                 the top of d's tree
+--     top_of up d                the top of d's tree
 --     joined up d e              the trees of d and e made one
 --     joined_all k queue lead    the same for what stands at each of the first k places of two queues
 --     Forest                     what is over a dart is less than it, or none

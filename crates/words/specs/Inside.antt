@@ -1,6 +1,6 @@
 -- What `src/` keeps while a start is tried against the word held, tied to words (01: "A start is given up at the first number
 -- that exceeds the best word so far"). For the functions inside: no public contract cites this file.
---     side_of w b                  how the word w comes out against the word b
+--     side_of w b                 how the word w comes out against the word b
 --     side_after, leaves_at       the same, one number further, and whether the start is then left
 --     Met                         what meeting a dart leaves, and its label
 --     Weighs, Weighed             a number may be judged, and what judging it leaves in the array of the word held

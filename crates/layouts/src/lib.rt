@@ -5,7 +5,6 @@ ghost use Rattle.std.specs.Prelude.{◌≡◌, ◌+◌, ◌≤◌, length};
 ghost use Rattle.layouts.specs.Reading.{all_read, Partly, Added, Stepped, Status};
 
 use std::io::{Input, Read};
-use std::process::ExitCode;
 
 // How far the input is read: so many whole records, and so many bytes of the next.
 #[derive(Clone, Copy)]
@@ -117,7 +116,7 @@ fn list(rt: &(impl Print + Eprint), input: &mut impl Read, buffer: &mut [u8]) ->
     false
 }
 
-// The whole program: the status with which it is to end.
+// The whole program, but for its start: the status with which it is to end.
 pub fn layouts_run(rt: &(impl Input + Print + Eprint)) -> i32
     ensures { Status result }
 {
@@ -126,13 +125,5 @@ pub fn layouts_run(rt: &(impl Input + Print + Eprint)) -> i32
         0
     } else {
         1
-    }
-}
-
-fn main(rt: HostRuntime) -> ExitCode {
-    if layouts_run(&rt) == 0 {
-        ExitCode::SUCCESS
-    } else {
-        ExitCode::FAILURE
     }
 }

@@ -50,13 +50,13 @@
 
 /* The stack that each call needs, in bytes, with its own return address. What memcpy and memset need beyond theirs comes on top,
    and so does what an interrupt pushes. */
-#define DUFTHEIM_STACK_CHECK 6376
+#define DUFTHEIM_STACK_CHECK 6312
 #define DUFTHEIM_STACK_JUDGE 6392
-#define DUFTHEIM_STACK_MATCH 12552
-#define DUFTHEIM_STACK_SIGNATURE 20856
-#define DUFTHEIM_STACK_DRAWER_CHECK 16664
-#define DUFTHEIM_STACK_FILE 25000
-#define DUFTHEIM_STACK_SEARCH 25016
+#define DUFTHEIM_STACK_MATCH 12632
+#define DUFTHEIM_STACK_SIGNATURE 14792
+#define DUFTHEIM_STACK_DRAWER_CHECK 16824
+#define DUFTHEIM_STACK_FILE 25064
+#define DUFTHEIM_STACK_SEARCH 25160
 
 /* Bytes of a record, and records of a full drawer. */
 #define DUFTHEIM_RECORD_SIZE 2048

@@ -3,162 +3,111 @@
 // drawer of more bytes than 1,025 records have print `?`.
 #![tactic(auto)]
 
-mod drawers;
-mod pairs;
+mod cases;
 mod print;
 mod read;
 
+use arrayvec::ArrayVec;
+use cases::{BYTES, NUMBERS, Room};
 use std::io;
 use std::io::{Input, Read, Write};
-use words::Signed;
 
-fn copy(out: &mut impl Write, line: &[u8]) -> io::Result<()> {
-    out.write_all(line)?;
-    print::newline(out)
+// The line that is under way in the input. A fixed buffer holds it, since the program allocates nothing; the flag stands beside it,
+// since an `Option` would have the whole buffer made anew after each line that is too long.
+#[derive(Drop)]
+struct UnderWay {
+    bytes: ArrayVec<u8, 131072>,
+    is_whole: bool,
 }
 
-// `check N M TABLE`, and nothing after it.
-fn answer_check(out: &mut impl Write, line: &[u8]) -> io::Result<()> {
-    // A table may have more numbers than the 1,020 of the longest map, and is then judged all the same.
-    let mut table = [0u16; 2048];
-    let map = read::map(line, read::word(line, b"check"), &mut table);
-    if map.next != line.len() {
-        return print::refuse(out);
-    }
-    let length = map.length;
-    print::judged_line(out, labels::check(map.n, map.m, &table[0..length]))
-}
-
-// A refusal has no start and no symmetries, and 0 is printed for each.
-fn print_signed(out: &mut impl Write, signed: Signed, output: &[u16]) -> io::Result<()> {
-    match signed {
-        Signed::Word { start, symmetries } => {
-            print::four(out, 0, 0, start as u64, symmetries as u64)?;
-        }
-        Signed::Refused { number, place } => {
-            print::four(out, number as u64, place as u64, 0, 0)?;
+impl UnderWay {
+    fn new() -> Self {
+        UnderWay {
+            bytes: ArrayVec::new(),
+            is_whole: true,
         }
     }
-    print::last_list(out, output)
-}
 
-fn sign(
-    out: &mut impl Write,
-    n: usize,
-    m: usize,
-    table: &[u16],
-    output: &mut [u16],
-) -> io::Result<()> {
-    let signed = words::signature(n, m, table, output);
-    print_signed(out, signed, output)
-}
-
-// `sign N M TABLE OUTPUT`, and nothing after it.
-fn answer_sign(out: &mut impl Write, line: &[u8]) -> io::Result<()> {
-    let mut table = [0u16; 2048];
-    let mut output = [0u16; 2048];
-    let map = read::map(line, read::word(line, b"sign"), &mut table);
-    let last = read::list(line, map.next, &mut output);
-    if last.next != line.len() {
-        return print::refuse(out);
+    // What does not fit is left out.
+    fn push(&mut self, bytes: &[u8]) {
+        self.is_whole &= self.bytes.try_extend_from_slice(bytes).is_ok();
     }
-    let length = map.length;
-    let room = last.value;
-    sign(out, map.n, map.m, &table[0..length], &mut output[0..room])
-}
 
-// The call is told by its first letter, and its word is read by what answers it.
-fn answer(out: &mut impl Write, line: &[u8]) -> io::Result<()> {
-    if line.len() == 0 {
-        return copy(out, line);
+    // The line, where all of it fitted.
+    fn line(&self) -> Option<&[u8]> {
+        self.is_whole.then_some(self.bytes.as_slice())
     }
-    match line[0] {
-        b'#' => copy(out, line),
-        b'c' => answer_check(out, line),
-        b's' => answer_sign(out, line),
-        b'm' => pairs::answer_match(out, line),
-        b'j' => pairs::answer_judge(out, line),
-        // A call on a drawer, or none.
-        other => drawers::answer(out, line, other),
+
+    fn is_empty(&self) -> bool {
+        self.is_whole && self.bytes.is_empty()
+    }
+
+    fn clear(&mut self) {
+        self.bytes.clear();
+        self.is_whole = true;
     }
 }
 
-// A line at its end. A length above the buffer's stands for a line that did not fit.
-fn end_line(out: &mut impl Write, line: &[u8], length: usize) -> io::Result<()> {
-    if line.len() < length {
-        return print::refuse(out);
+// An empty line and a line that starts with `#` are copied.
+fn answer(out: &mut impl Write, line: &[u8], room: &mut Room) -> io::Result<()> {
+    if let [] | [b'#', ..] = line {
+        out.write_all(line)?;
+        return out.write_all(b"\n");
     }
-    answer(out, &line[0..length])
+    cases::answer(out, line, room).unwrap_or_else(|| print::refuse(out))
 }
 
-// One byte of the input. Answers the length of the line that is under way after it.
-fn take_byte(
-    out: &mut impl Write,
-    line: &mut [u8; 131072],
-    length: usize,
-    byte: u8,
-) -> io::Result<usize> {
-    if byte == b'\n' {
-        end_line(out, line, length)?;
-        return Ok(0);
+// A line at its end.
+fn end_line(out: &mut impl Write, under_way: &UnderWay, room: &mut Room) -> io::Result<()> {
+    match under_way.line() {
+        Some(line) => answer(out, line, room),
+        None => print::refuse(out),
     }
-    if length < 131072 {
-        line[length] = byte;
-        return Ok(length + 1);
-    }
-    Ok(131073)
 }
 
 fn take_bytes(
     out: &mut impl Write,
-    line: &mut [u8; 131072],
-    length: usize,
+    under_way: &mut UnderWay,
+    room: &mut Room,
     bytes: &[u8],
-) -> io::Result<usize> {
-    let mut under_way = length;
-    for byte in bytes {
-        under_way = take_byte(out, line, under_way, *byte)?;
+) -> io::Result<()> {
+    for part in bytes.split_inclusive(|b| *b == b'\n') {
+        let Some(last) = part.strip_suffix(b"\n") else {
+            under_way.push(part);
+            break;
+        };
+        under_way.push(last);
+        end_line(out, under_way, room)?;
+        under_way.clear();
     }
-    Ok(under_way)
-}
-
-// Takes what one reading of the input gives, and answers whether it gave anything.
-fn take_some(
-    out: &mut impl Write,
-    input: &mut impl Read,
-    line: &mut [u8; 131072],
-    length: &mut usize,
-) -> io::Result<bool> {
-    let mut bytes = [0u8; 65536];
-    let count = input.read(&mut bytes)?;
-    if count == 0 {
-        return Ok(false);
-    }
-    *length = take_bytes(out, line, *length, &bytes[..count])?;
-    Ok(true)
+    Ok(())
 }
 
 // Nothing says that the input ends, so the readings are counted up to a number that no run uses up.
-fn take_all(
-    out: &mut impl Write,
-    input: &mut impl Read,
-    line: &mut [u8; 131072],
-) -> io::Result<()> {
-    let mut length = 0;
+fn take_all(out: &mut impl Write, input: &mut impl Read, room: &mut Room) -> io::Result<()> {
+    let mut under_way = UnderWay::new();
+    let mut bytes = [0u8; 65536];
     for _ in 0..u64::MAX {
-        if !take_some(out, input, line, &mut length)? {
+        let count = input.read(&mut bytes)?;
+        if count == 0 {
             break;
         }
+        take_bytes(out, &mut under_way, room, &bytes[..count])?;
     }
     // The last line may lack its newline.
-    if 0 < length {
-        end_line(out, line, length)?;
+    if !under_way.is_empty() {
+        end_line(out, &under_way, room)?;
     }
     Ok(())
 }
 
 // A reading or a writing that fails ends the program with its error.
 fn main(rt: HostRuntime) -> io::Result<()> {
-    let mut line = [0u8; 131072];
-    take_all(&mut io::writer(&rt), &mut rt.reader(), &mut line)
+    let mut room = Room {
+        table: [0; NUMBERS],
+        second: [0; NUMBERS],
+        list: [0; NUMBERS],
+        bytes: [0; BYTES],
+    };
+    take_all(&mut io::writer(&rt), &mut rt.reader(), &mut room)
 }

@@ -1,7 +1,6 @@
 // The lines that are printed, each number as soon as it is there.
-ghost use Rattle.std.specs.Prelude.{◌≤◌, ◌<◌, ◌+◌};
-
-use maps::Judged;
+use maps::Shown;
+use std::fmt::Display;
 use std::io;
 use std::io::Write;
 
@@ -10,146 +9,59 @@ pub(crate) fn refuse(out: &mut impl Write) -> io::Result<()> {
     out.write_all(b"?\n")
 }
 
-pub(crate) fn newline(out: &mut impl Write) -> io::Result<()> {
-    out.write_all(b"\n")
-}
-
-fn decimal(out: &mut impl Write, n: u64) -> io::Result<()> {
-    write!(out, "{n}")
-}
-
-// A space and a number.
-fn spaced(out: &mut impl Write, n: u64) -> io::Result<()> {
-    write!(out, " {n}")
-}
-
-// A number that stands fewer than four times in a row, one by one.
-fn repeated(out: &mut impl Write, n: u64, times: usize) -> io::Result<()> {
-    for _ in 0..times {
-        spaced(out, n)?;
+// The number and the place that the display shows, and the answer's own numbers. A refusal has none of these, and 0 is printed for each.
+fn numbers<E: Shown + Drop, const K: usize>(
+    out: &mut impl Write,
+    answer: Result<[usize; K], E>,
+) -> io::Result<()> {
+    let ((number, place), own) = match answer {
+        Ok(own) => ((0, 0), own),
+        Err(refusal) => (refusal.number_and_place(), [0; K]),
+    };
+    write!(out, "{number} {place}")?;
+    for x in own {
+        write!(out, " {x}")?;
     }
     Ok(())
 }
 
-// A number and how often it stands in a row: `V*K` from four times on.
-fn run(out: &mut impl Write, n: u64, times: usize) -> io::Result<()> {
-    if times < 4 {
-        return repeated(out, n, times);
-    }
-    spaced(out, n)?;
-    out.write_all(b"*")?;
-    decimal(out, times as u64)
-}
-
-// The run that is under way in a list. It may go on, and is not printed yet.
-#[derive(Clone, Copy)]
-pub struct Begun {
-    pub value: u64,
-    pub times: usize,
-}
-
-// The next number of a list goes on with the run, or begins another.
-fn step(begun: Begun, value: u64) -> Begun
-    requires { begun.times < 18446744073709551615 }
-    ensures { result.times ≤ begun.times + 1 }
-{
-    if value == begun.value {
-        return Begun {
-            value,
-            times: begun.times + 1,
-        };
-    }
-    Begun { value, times: 1 }
-}
-
-// A run that the next number does not go on with is over, and printed.
-fn end_run(out: &mut impl Write, begun: Begun, value: u64) -> io::Result<()> {
-    if value == begun.value {
-        return Ok(());
-    }
-    run(out, begun.value, begun.times)
-}
-
-fn wide(x: u16) -> u64 {
-    x as u64
-}
-
-fn numbers(out: &mut impl Write, list: &[u16]) -> io::Result<()> {
-    let mut begun = Begun { value: 0, times: 0 };
-    for x in list {
-        let value = wide(*x);
-        end_run(out, begun, value)?;
-        begun = step(begun, value);
-    }
-    run(out, begun.value, begun.times)
-}
-
-// A space, a list, which is its length and its numbers by runs, and the line's end.
-pub(crate) fn last_list(out: &mut impl Write, list: &[u16]) -> io::Result<()> {
-    spaced(out, list.len() as u64)?;
-    numbers(out, list)?;
-    newline(out)
-}
-
-fn wide_byte(x: u8) -> u64 {
-    x as u64
-}
-
-fn bytes(out: &mut impl Write, list: &[u8]) -> io::Result<()> {
-    let mut begun = Begun { value: 0, times: 0 };
-    for x in list {
-        let value = wide_byte(*x);
-        end_run(out, begun, value)?;
-        begun = step(begun, value);
-    }
-    run(out, begun.value, begun.times)
-}
-
-// A space, a list of bytes, as the numbers that they are, and the line's end.
-pub(crate) fn last_bytes(out: &mut impl Write, list: &[u8]) -> io::Result<()> {
-    spaced(out, list.len() as u64)?;
-    bytes(out, list)?;
-    newline(out)
-}
-
-// A line that has no more than a list of bytes.
-pub(crate) fn bytes_line(out: &mut impl Write, list: &[u8]) -> io::Result<()> {
-    decimal(out, list.len() as u64)?;
-    bytes(out, list)?;
-    newline(out)
-}
-
-// The number and the place of a refusal, or 0 and 0.
-fn two(out: &mut impl Write, number: u64, place: u64) -> io::Result<()> {
-    decimal(out, number)?;
-    spaced(out, place)
-}
-
-pub(crate) fn three(out: &mut impl Write, number: u64, place: u64, third: u64) -> io::Result<()> {
-    two(out, number, place)?;
-    spaced(out, third)
-}
-
-pub(crate) fn four(
+// A list, which is its length and its numbers, and the line's end. Of four or more equal numbers in a row, one is printed, and how
+// many they are.
+pub(crate) fn last_list<T: Display + PartialEq>(
     out: &mut impl Write,
-    number: u64,
-    place: u64,
-    third: u64,
-    fourth: u64,
+    list: &[T],
 ) -> io::Result<()> {
-    three(out, number, place, third)?;
-    spaced(out, fourth)
-}
-
-pub(crate) fn judged_start(out: &mut impl Write, judged: Judged) -> io::Result<()> {
-    match judged {
-        Judged::Passed => two(out, 0, 0),
-        Judged::Refused { number, place } => two(out, number as u64, place as u64),
+    write!(out, "{}", list.len())?;
+    for run in list.chunk_by(|x, y| x == y) {
+        let times = run.len();
+        match run {
+            [value, _, _, _, ..] => write!(out, " {value}*{times}")?,
+            few => {
+                for x in few {
+                    write!(out, " {x}")?;
+                }
+            }
+        }
     }
+    out.write_all(b"\n")
 }
 
-// A line that has no more than the number and the place.
-pub(crate) fn judged_line(out: &mut impl Write, judged: Judged) -> io::Result<()> {
-    judged_start(out, judged)?;
-    newline(out)
+// The line of an answer that is numbers alone.
+pub(crate) fn answer<E: Shown + Drop, const K: usize>(
+    out: &mut impl Write,
+    answer: Result<[usize; K], E>,
+) -> io::Result<()> {
+    numbers(out, answer)?;
+    out.write_all(b"\n")
+}
+
+// The line of an answer that is numbers, and beside them what a lent buffer holds then.
+pub(crate) fn answer_and_list<E: Shown + Drop, T: Display + PartialEq, const K: usize>(
+    out: &mut impl Write,
+    answer: Result<[usize; K], E>,
+    left: &[T],
+) -> io::Result<()> {
+    numbers(out, answer)?;
+    out.write_all(b" ")?;
+    last_list(out, left)
 }

@@ -1,235 +1,103 @@
-// The parts of a case, read out of its line from left to right: words, numbers, lists, bytes and maps. Each is read from a place of
-// the line, and answers where the next one starts. Where it is not there that is `LOST`, and nothing is read from there on: a case
-// is in form where its last part ends at the line's end.
-ghost use Rattle.std.specs.Prelude.{◌≤◌, length as size};
+// The parts of a case, read out of its line from left to right: a word, numbers, lists and maps. A part that is not there is
+// `None`, and then the line is no case.
+ghost use Rattle.std.specs.Prelude.{◌<◌, IfSome};
 
-// No line is so long.
-const LOST: usize = usize::MAX;
+use crate::cases::{BYTES, NUMBERS};
+use drawer::Records;
+use maps::Table;
 
-// A number, or a list's length. The list's numbers are in the slice that was lent.
+// What is left to read of a line.
 #[derive(Clone, Copy)]
-pub struct NumberPart {
-    pub value: usize,
-    pub next: usize,
+pub struct Line<'a> {
+    rest: &'a [u8],
 }
 
-// A number of a list, and how often it stands there from here on.
-#[derive(Clone, Copy)]
-pub struct RunPart {
-    pub value: usize,
-    pub times: usize,
-    pub next: usize,
+// A number with the digit `b` written behind it, while it is below 2^64. The cast stays: `usize` is not `From<u32>`, here as in Rust.
+fn with_digit(number: usize, b: u8) -> Option<usize> {
+    let digit = char::from(b).to_digit(10)?;
+    number.checked_mul(10)?.checked_add(digit as usize)
 }
 
-// A map's two numbers and its table's length. The table is in the slice that was lent.
-#[derive(Clone, Copy)]
-pub struct MapPart {
-    pub n: usize,
-    pub m: usize,
-    pub length: usize,
-    pub next: usize,
-}
-
-fn wide(x: u8) -> usize {
-    x as usize
-}
-
-// A digit's value, or 10 for what is no digit.
-fn digit(b: u8) -> usize {
-    if b < b'0' {
-        return 10;
+impl<'a> Line<'a> {
+    pub(crate) fn new(rest: &'a [u8]) -> Self {
+        Line { rest }
     }
-    if b'9' < b {
-        return 10;
-    }
-    wide(b - b'0')
-}
 
-// Past one byte.
-fn byte(line: &[u8], at: usize, b: u8) -> usize {
-    if line.len() <= at {
-        return LOST;
+    // A case starts with its word, which a space ends.
+    pub(crate) fn word(&mut self) -> Option<&'a [u8]> {
+        let length = self.rest.iter().position(|b| *b == b' ')?;
+        self.rest.split_off(..length)
     }
-    if line[at] != b {
-        return LOST;
-    }
-    at + 1
-}
 
-// A case starts with its word.
-pub(crate) fn word(line: &[u8], word: &[u8]) -> usize {
-    let mut at = 0;
-    for b in word {
-        at = byte(line, at, *b);
-    }
-    at
-}
-
-fn lost() -> NumberPart
-    ensures { result.value ≤ 0 }
-{
-    NumberPart {
-        value: 0,
-        next: LOST,
-    }
-}
-
-// Decimal digits, at least one, of a number below 2^64.
-fn digits(line: &[u8], start: usize) -> NumberPart {
-    let mut at = start;
-    let mut value: usize = 0;
-    while at < line.len() {
-        let d = digit(line[at]);
-        if 9 < d {
-            break;
+    // Decimal digits, at least one.
+    fn digits(&mut self) -> Option<usize> {
+        let length = self.rest.iter().take_while(|b| b.is_ascii_digit()).count();
+        let digits = self.rest.split_off(..length)?;
+        if digits.is_empty() {
+            return None;
         }
-        if (usize::MAX - d) / 10 < value {
-            return lost();
-        }
-        value = value * 10 + d;
-        at += 1;
+        digits
+            .iter()
+            .try_fold(0, |number, b| with_digit(number, *b))
     }
-    if at == start {
-        return lost();
-    }
-    NumberPart { value, next: at }
-}
 
-// A space and a number.
-pub(crate) fn number(line: &[u8], at: usize) -> NumberPart {
-    digits(line, byte(line, at, b' '))
-}
-
-// A number that is at most `most`.
-fn bounded(read: NumberPart, most: usize) -> NumberPart
-    ensures { result.value ≤ most }
-{
-    if most < read.value {
-        return lost();
+    // A space and a number.
+    pub(crate) fn number(&mut self) -> Option<usize> {
+        self.rest = self.rest.strip_prefix(b" ")?;
+        self.digits()
     }
-    read
-}
 
-// How often the number before the place stands in its list: once, where no `*` follows it, and never 0 times.
-fn times(line: &[u8], at: usize) -> NumberPart {
-    let star = byte(line, at, b'*');
-    if star == LOST {
-        return NumberPart { value: 1, next: at };
-    }
-    let read = digits(line, star);
-    if read.value == 0 {
-        return lost();
-    }
-    read
-}
-
-// A space, a number of a list, which is at most `most`, and how often it stands there.
-fn run(line: &[u8], at: usize, most: usize) -> RunPart
-    ensures { result.value ≤ most }
-{
-    let read = bounded(number(line, at), most);
-    let count = times(line, read.next);
-    RunPart {
-        value: read.value,
-        times: count.value,
-        next: count.next,
-    }
-}
-
-// The next number of a list: the same again, or that of the next run.
-fn again(line: &[u8], before: RunPart, most: usize) -> RunPart
-    requires { before.value ≤ most }
-    ensures { result.value ≤ most }
-{
-    if 1 < before.times {
-        return RunPart {
-            value: before.value,
-            times: before.times - 1,
-            next: before.next,
+    // How often the number before this place stands in its list: once, where no `*` follows it, and never 0 times.
+    fn times(&mut self) -> Option<usize>
+        ensures { IfSome result (λ times. 0 < times) }
+    {
+        let Some(rest) = self.rest.strip_prefix(b"*") else {
+            return Some(1);
         };
+        self.rest = rest;
+        self.digits().filter(|times| *times != 0)
     }
-    run(line, before.next, most)
-}
 
-// What stands before the first number of a list.
-fn none(at: usize) -> RunPart
-    ensures { result.value ≤ 0 }
-{
-    RunPart {
-        value: 0,
-        times: 0,
-        next: at,
+    // A list's length and its numbers, which its runs must fill exactly. They are written to the front of the room.
+    pub(crate) fn list<'b, T, const N: usize>(
+        &mut self,
+        room: &'b mut [T; N],
+    ) -> Option<&'b mut [T]>
+    where
+        T: Copy + TryFrom<usize>,
+        T::Error: Drop,
+    {
+        let length = self.number()?;
+        let list = room.get_mut(..length)?;
+        let mut open = &mut *list;
+        while !open.is_empty() {
+            let value = T::try_from(self.number()?).ok()?;
+            let times = self.times()?;
+            // `fill` would ask that no clone of a `T` fails, which `Copy` doesn't say.
+            open.split_off_mut(..times)?.fill_with(|| value);
+        }
+        Some(list)
     }
-}
 
-// Where a list ends. No more of its last run may be left.
-fn end(last: RunPart) -> usize {
-    if 1 < last.times {
-        return LOST;
+    // N, M and the table.
+    pub(crate) fn table<'b>(&mut self, room: &'b mut [u16; NUMBERS]) -> Option<Table<'b>> {
+        Some(Table {
+            n: self.number()?,
+            m: self.number()?,
+            numbers: self.list(room)?,
+        })
     }
-    last.next
-}
 
-// The numbers of a list, as many as the slice has.
-fn fill(line: &[u8], before: RunPart, numbers: &mut [u16]) -> RunPart
-    requires { before.value ≤ 65535 }
-{
-    let mut read = before;
-    for x in numbers.iter_mut() {
-        read = again(line, read, 65535);
-        *x = read.value as u16;
+    // A drawer's record count and its bytes.
+    pub(crate) fn records<'b>(&mut self, room: &'b mut [u8; BYTES]) -> Option<Records<'b>> {
+        Some(Records {
+            count: self.number()?,
+            bytes: self.list(room)?,
+        })
     }
-    read
-}
 
-fn fill_bytes(line: &[u8], before: RunPart, bytes: &mut [u8]) -> RunPart
-    requires { before.value ≤ 255 }
-{
-    let mut read = before;
-    for x in bytes.iter_mut() {
-        read = again(line, read, 255);
-        *x = read.value as u8;
-    }
-    read
-}
-
-// A list's length and its numbers, which its runs must fill exactly.
-pub(crate) fn list(line: &[u8], at: usize, numbers: &mut [u16]) -> NumberPart
-    ensures { result.value ≤ size numbers.old }
-{
-    let head = bounded(number(line, at), numbers.len());
-    let length = head.value;
-    let last = fill(line, none(head.next), &mut numbers[0..length]);
-    NumberPart {
-        value: length,
-        next: end(last),
-    }
-}
-
-// The bytes of a drawer, which are a list of numbers up to 255.
-pub(crate) fn bytes(line: &[u8], at: usize, bytes: &mut [u8]) -> NumberPart
-    ensures { result.value ≤ size bytes.old }
-{
-    let head = bounded(number(line, at), bytes.len());
-    let length = head.value;
-    let last = fill_bytes(line, none(head.next), &mut bytes[0..length]);
-    NumberPart {
-        value: length,
-        next: end(last),
-    }
-}
-
-// N, M and the table.
-pub(crate) fn map(line: &[u8], at: usize, table: &mut [u16]) -> MapPart
-    ensures { result.length ≤ size table.old }
-{
-    let n = number(line, at);
-    let m = number(line, n.next);
-    let numbers = list(line, m.next, table);
-    MapPart {
-        n: n.value,
-        m: m.value,
-        length: numbers.value,
-        next: numbers.next,
+    // A case is in form where its last part ends at the line's end.
+    pub(crate) fn end(self) -> Option<()> {
+        self.rest.is_empty().then_some(())
     }
 }

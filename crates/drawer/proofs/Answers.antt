@@ -1,172 +1,163 @@
--- The laws of `specs/Answers.antt`: an answer's numbers are those of the definition, and no second answer of a call fits.
---     for_reading                     an answer stands for its reading
+-- The laws of `specs/Answers.antt` on reading: what an answer says of a record's bytes, and that no second answer fits. Those on the
+-- drawer's calls are in `Shown`.
+--     reading_one                     no two answers stand for one reading
 --     layout_read                     a layout that is read holds an accepted map
---     unread_long, unread_room, read_fault, read_whole
+--     unread_long, unread_room, read_layout, read_fault
 --                                     what `read_table` answers and leaves, by its tests
+--     entry_read, entry_some          and what its answer says of the bytes
 --     read_only                       no second answer of it fits
---     shown_searched, shown_filed     of any numbers that have a place and no more in a refusal
---     shown_search_lem, shown_filing_lem  of search and of filing
---     drawer_only, search_only, own_bytes_only, filing_only
---                                     no second answer fits: the drawer check, search, the record's own bytes, filing
 -- Assumes nothing.
 use Prim.Native.Nat.{ℕ, ◌*◌, ◌≤◌, ◌<◌}
 use mathlib.Core.Path.{◌≡◌, refl, sym, ap, ◌∙◌}
-use mathlib.Core.Bool.{true, false}
+use mathlib.Core.Bool.{true, false, and-false}
 use mathlib.Core.List.{List, ◌++◌}
-use borrow.Author.Tests.{eq-eqb, ne_eqb, eqb-true, eqb-false, le-leb, lt-leb}
-use lib.Dec.{eqb}
+use borrow.Author.Tests.{eq-eqb, ne_eqb, le-leb, lt-leb}
 use lib.ListN.{length, drop}
-use Rattle.maps.specs.Given.{Given, map_of}
+use Rattle.std.specs.Prelude.{Option, None, Some, Result, Ok, Err}
+use Rattle.maps.specs.Given.{lent, map_of}
 use Rattle.maps.specs.Accepted.{Accepted}
-use Rattle.maps.specs.Verdict.{refused, accepts}
-use Rattle.maps.specs.Answer.{judged_of}
-use Rattle.maps.specs.declared.Judged.{Judged}
-use Rattle.maps.proofs.Least.{Tested, passes, fails, tested}
+use Rattle.maps.specs.Shown.{shown_refusal}
+use Rattle.maps.specs.declared.Refusal.{Refusal}
+use Rattle.maps.proofs.Answer.{refusal_only}
 use Rattle.words.specs.Sign.{over}
-use Rattle.drawer.specs.Record as records
-use Rattle.drawer.specs.Record.{numbers, record_size, filed_in, read_table}
-use Rattle.drawer.specs.Drawer.{Drawer, is_bad, SearchAnswer, FilingAnswer, drawer_answer, judge_search, search_answer, own_bytes, judge_filing, filing_answer}
-use Rattle.drawer.specs.Answers.{reading_of, read_for, is_read, entry_of, table_over, ReadsAs, search_of, shown_search, filing_of, shown_filing, FilesAs}
-use Rattle.drawer.specs.declared.fields.Reading.{Reading}
-use Rattle.drawer.specs.declared.fields.Reading.TheVariants.{Layout, WrongDimension, WrongSize, NoDie, WrongZeroByte, WrongFilling, NoMap, OtherWord}
+use Rattle.drawer.specs.Record.{Filed, Reading, Fault, good, wrong_dimension, wrong_size, no_die, zero_byte, filling, no_map, other_word, numbers, record_size, filed_in, read_table}
+use Rattle.drawer.specs.Drawer.{is_bad}
+use Rattle.drawer.specs.Answers.{fault_of, reading_of, is_read, entry_of, shown_entry, table_over, ReadsAs}
+use Rattle.drawer.specs.declared.fields.Layout.{Layout}
+use Rattle.drawer.specs.declared.fields.RecordFault.{RecordFault}
+use Rattle.drawer.specs.declared.fields.RecordFault.TheVariants.{Dimension, Size, NoDie, ZeroByte, Filling, NoMap, OtherWord}
 use Rattle.drawer.specs.declared.table.Entry.{Entry}
-use Rattle.drawer.specs.declared.table.Entry.TheVariants as entry
-use Rattle.drawer.specs.declared.search.Search.{Search}
-use Rattle.drawer.specs.declared.file.Filing.{Filing}
 use Rattle.drawer.proofs.Readings.{length_numbers, table_good}
-use Rattle.drawer.proofs.Inside.{is_layout, fault_reads}
 
--- an answer stands for its reading
-pub for_reading : (h : Reading) (r : List ℕ) → read_for (reading_of h r) ≡ h
-unfolding read_for reading_of refused
-for_reading (Layout die n m) r = refl
-for_reading WrongDimension r = refl
-for_reading WrongSize r = refl
-for_reading NoDie r = refl
-for_reading WrongZeroByte r = refl
-for_reading WrongFilling r = refl
-for_reading (NoMap number place) r = refl
-for_reading OtherWord r = refl
+-- no two answers stand for one reading
+-- the fault of a name, or else a given one: a map's has many
+fault_for : Fault → RecordFault → RecordFault
+fault_for wrong_dimension f = Dimension
+fault_for wrong_size f = Size
+fault_for no_die f = NoDie
+fault_for zero_byte f = ZeroByte
+fault_for filling f = Filling
+fault_for (no_map v) f = f
+fault_for other_word f = OtherWord
 
--- a fault leaves the list as it was, and a layout puts its table in front
-fault_over : (h : Reading) (r before : List ℕ) → is_layout h ≡ false → table_over (reading_of h r) before ≡ before
-unfolding table_over
-fault_over h r before e = ap (λ (x : records.Reading). table_over x before) (fault_reads h r e).1
+for_fault : (f : RecordFault) → fault_for (fault_of f) f ≡ f
+unfolding fault_for fault_of
+for_fault Dimension = refl
+for_fault Size = refl
+for_fault NoDie = refl
+for_fault ZeroByte = refl
+for_fault Filling = refl
+for_fault (NoMap r) = refl
+for_fault OtherWord = refl
 
-layout_over : (die n m : ℕ) (r before : List ℕ) → table_over (reading_of (Layout die n m) r) before ≡ numbers (n * m) (drop 8 r) ++ drop (n * m) before
-unfolding table_over reading_of over
-layout_over die n m r before = ap (λ (k : ℕ). numbers (n * m) (drop 8 r) ++ drop k before) (length_numbers (n * m) (drop 8 r))
+map_fault : (r : Refusal) (f : RecordFault) → no_map (shown_refusal r) ≡ fault_of f → NoMap r ≡ f
+unfolding fault_of
+map_fault r Dimension is = cc
+map_fault r Size is = cc
+map_fault r NoDie is = cc
+map_fault r ZeroByte is = cc
+map_fault r Filling is = cc
+map_fault r (NoMap s) is = ap NoMap (refusal_only r s cc)
+map_fault r OtherWord is = cc
+
+fault_one : (e f : RecordFault) → fault_of e ≡ fault_of f → e ≡ f
+unfolding fault_for fault_of
+fault_one (NoMap r) f is = map_fault r f is
+fault_one Dimension f is = ap (λ (x : Fault). fault_for x f) is ∙ for_fault f
+fault_one Size f is = ap (λ (x : Fault). fault_for x f) is ∙ for_fault f
+fault_one NoDie f is = ap (λ (x : Fault). fault_for x f) is ∙ for_fault f
+fault_one ZeroByte f is = ap (λ (x : Fault). fault_for x f) is ∙ for_fault f
+fault_one Filling f is = ap (λ (x : Fault). fault_for x f) is ∙ for_fault f
+fault_one OtherWord f is = ap (λ (x : Fault). fault_for x f) is ∙ for_fault f
+
+pub reading_one : (h k : Result Layout RecordFault) (r : List ℕ) → reading_of h r ≡ reading_of k r → h ≡ k
+unfolding reading_of
+reading_one (Ok l) (Ok k) r is =
+    let filed : record { die = l.die; layout = lent l.n l.m (numbers (l.n * l.m) (drop 8 r)) } ≡ record { die = k.die; layout = lent k.n k.m (numbers (k.n * k.m) (drop 8 r)) } = cc in
+    λ i. Ok (record { die = ap (λ (f : Filed). f.die) filed i; n = ap (λ (f : Filed). f.layout.n) filed i; m = ap (λ (f : Filed). f.layout.m) filed i })
+reading_one (Ok l) (Err f) r is = cc
+reading_one (Err e) (Ok k) r is = cc
+reading_one (Err e) (Err f) r is =
+    let same : fault_of e ≡ fault_of f = cc in
+    ap Err (fault_one e f same)
 
 -- a layout that is read holds an accepted map
-pub layout_read : (die n m : ℕ) (r : List ℕ) → reading_of (Layout die n m) r ≡ read_table r →
-    Accepted (map_of (filed_in r).layout) × (n ≡ (filed_in r).layout.n) × (m ≡ (filed_in r).layout.m)
-unfolding read_for reading_of is_bad
-layout_read die n m r is =
+pub layout_read : (l : Layout) (r : List ℕ) → reading_of (Ok l) r ≡ read_table r →
+    Accepted (map_of (filed_in r).layout) × (l.n ≡ (filed_in r).layout.n) × (l.m ≡ (filed_in r).layout.m)
+unfolding reading_of is_bad
+layout_read l r is =
     let good_here = table_good r (ap is_bad (sym is)) in
-    let same : Layout die n m ≡ Layout (filed_in r).die (filed_in r).layout.n (filed_in r).layout.m = ap read_for (is ∙ good_here.1) in
-    (good_here.0, (cc), (cc))
+    let same : good (record { die = l.die; layout = lent l.n l.m (numbers (l.n * l.m) (drop 8 r)) }) ≡ good (filed_in r) = is ∙ good_here.1 in
+    let filed : record { die = l.die; layout = lent l.n l.m (numbers (l.n * l.m) (drop 8 r)) } ≡ filed_in r = cc in
+    (good_here.0, ap (λ (f : Filed). f.layout.n) filed, ap (λ (f : Filed). f.layout.m) filed)
+
+entry_parts : (a b : ℕ × Reading) → Some a ≡ Some b → (a.0 ≡ b.0) × (a.1 ≡ b.1)
+entry_parts a b is = let same : a ≡ b = cc in (ap (λ (e : ℕ × Reading). e.0) same, ap (λ (e : ℕ × Reading). e.1) same)
+
+-- a fault leaves the list as it was, and a layout puts its table in front
+fault_over : (h : Result Layout RecordFault) (r before : List ℕ) → ((l : Layout) → h ≡ Ok l → ⊥) → table_over (reading_of h r) before ≡ before
+unfolding table_over reading_of
+fault_over (Ok l) r before other = absurd (other l refl)
+fault_over (Err f) r before other = refl
+
+layout_over : (l : Layout) (r before : List ℕ) → table_over (reading_of (Ok l) r) before ≡ numbers (l.n * l.m) (drop 8 r) ++ drop (l.n * l.m) before
+unfolding table_over reading_of over
+layout_over l r before = ap (λ (k : ℕ). numbers (l.n * l.m) (drop 8 r) ++ drop k before) (length_numbers (l.n * l.m) (drop 8 r))
 
 -- what `read_table` answers and leaves, by its tests
 module _ (r before : List ℕ) where
-  unread : is_read r before ≡ false → ReadsAs r before entry.Unread before
-  unfolding entry_of
+  unread : is_read r before ≡ false → ReadsAs r before None before
+  unfolding entry_of shown_entry
   unread e = record { answer = simp e; written = simp e }
 
-  pub unread_long : (length r ≡ 2048 → ⊥) → ReadsAs r before entry.Unread before
-  unfolding is_read record_size
-  unread_long other = unread (simp (ne_eqb (length r) 2048 other))
+  pub unread_long : (length r ≡ record_size → ⊥) → ReadsAs r before None before
+  unfolding is_read
+  unread_long other = unread (simp (ne_eqb (length r) record_size other))
 
-  module _ (long : length r ≡ 2048) where
-    pub unread_room : length before < 1020 → ReadsAs r before entry.Unread before
-    unfolding is_read record_size
-    unread_room short = unread (simp (eq-eqb (length r) 2048 long, lt-leb 1020 (length before) short))
+  pub unread_room : length before < 1020 → ReadsAs r before None before
+  unfolding is_read
+  unread_room short = unread (simp (lt-leb 1020 (length before) short, and-false))
 
-    module _ (room : 1020 ≤ length before) where
-      is_read_lem : is_read r before ≡ true
-      unfolding is_read record_size
-      is_read_lem = simp (eq-eqb (length r) 2048 long, le-leb 1020 (length before) room)
+  -- where the bytes are a record and the list is long enough
+  module _ (filed : List ℕ) (same : filed ≡ r) (long : length r ≡ record_size) (room : 1020 ≤ length before) (die : ℕ) (is_die : die ≡ (filed_in filed).die) where
+    read : (h : Result Layout RecordFault) (after : List ℕ) → reading_of h filed ≡ read_table filed → after ≡ table_over (reading_of h filed) before →
+        ReadsAs r before (Some (record { die = die; reading = h })) after
+    unfolding is_read entry_of shown_entry
+    read h after is over-is =
+        let whole : is_read r before ≡ true = simp (eq-eqb (length r) record_size long, le-leb 1020 (length before) room) in
+        let reads : reading_of h r ≡ read_table r = rw same at is in
+        record {
+          answer = simp whole (λ i. Some ((rw same at is_die) i, reads i));
+          written = simp whole ((rw same at over-is) ∙ ap (λ (x : Reading). table_over x before) reads);
+        }
 
-      -- the answer that stands for the reading
-      answer_is : (die : ℕ) (h : Reading) → die ≡ (filed_in r).die → reading_of h r ≡ read_table r → entry.Read die h ≡ entry_of r before
-      unfolding entry_of
-      answer_is die h is_die is = simp is_read_lem (λ i. entry.Read (is_die i) ((sym (for_reading h r) ∙ ap read_for is) i))
+    pub read_layout : (h : Result Layout RecordFault) (l : Layout) (after : List ℕ) → reading_of (Ok l) filed ≡ read_table filed → h ≡ Ok l →
+        after ≡ numbers (l.n * l.m) (drop 8 filed) ++ drop (l.n * l.m) before → ReadsAs r before (Some (record { die = die; reading = h })) after
+    read_layout h l after is is_l written = rw is_l (read (Ok l) after is (written ∙ sym (layout_over l filed before)))
 
-      pub read_fault : (die : ℕ) (h : Reading) → die ≡ (filed_in r).die → reading_of h r ≡ read_table r → is_layout h ≡ false → ReadsAs r before (entry.Read die h) before
-      read_fault die h is_die is e =
-          record { answer = answer_is die h is_die is; written = simp is_read_lem (sym (fault_over h r before e) ∙ ap (λ (x : records.Reading). table_over x before) is) }
+    pub read_fault : (h k : Result Layout RecordFault) (after : List ℕ) → reading_of k filed ≡ read_table filed → h ≡ k → ((l : Layout) → k ≡ Ok l → ⊥) →
+        after ≡ before → ReadsAs r before (Some (record { die = die; reading = h })) after
+    read_fault h k after is is_k other kept = rw is_k (read k after is (kept ∙ sym (fault_over k filed before other)))
 
-      pub read_whole : (d : ℕ) (die n m : ℕ) → d ≡ (filed_in r).die → reading_of (Layout die n m) r ≡ read_table r → (after : List ℕ) →
-          after ≡ numbers (n * m) (drop 8 r) ++ drop (n * m) before → ReadsAs r before (entry.Read d (Layout die n m)) after
-      read_whole d die n m is_die is after over-is =
-          record {
-            answer = answer_is d (Layout die n m) is_die is;
-            written = simp is_read_lem (over-is ∙ sym (layout_over die n m r before) ∙ ap (λ (x : records.Reading). table_over x before) is);
-          }
+  -- what an answer says of the bytes
+  pub entry_some : is_read r before ≡ true → shown_entry None r ≡ entry_of r before → ⊥
+  unfolding entry_of shown_entry
+  entry_some whole is = let other : ◌≡◌ {A = Option (ℕ × Reading)} None (Some ((filed_in r).die, read_table r)) = is ∙ simp whole in cc
 
-pub read_only : (r before : List ℕ) (e f : Entry) (o p : List ℕ) → ReadsAs r before e o → ReadsAs r before f p → (e ≡ f) × (o ≡ p)
-read_only r before e f o p a b = (a.answer ∙ sym b.answer, a.written ∙ sym b.written)
+  pub entry_read : (e : Entry) → is_read r before ≡ true → shown_entry (Some e) r ≡ entry_of r before →
+      (e.die ≡ (filed_in r).die) × (reading_of e.reading r ≡ read_table r)
+  unfolding entry_of shown_entry
+  entry_read e whole is = entry_parts _ _ (is ∙ simp whole)
 
--- the numbers of an answer of search are those that it was made of
-pub shown_searched : (a : SearchAnswer) → (a.number ≡ 0 → a.place ≡ 0) → ((a.number ≡ 0 → ⊥) → (a.die ≡ 0) × (a.at ≡ 0)) → shown_search (search_of a) ≡ a
-unfolding shown_search search_of
-shown_searched a clean none = at (tested (eqb a.number 0))
+-- neither another answer nor another list
+pub read_only : (r before : List ℕ) (e f : Option Entry) (o p : List ℕ) → ReadsAs r before e o → ReadsAs r before f p → (e ≡ f) × (o ≡ p)
+unfolding shown_entry
+read_only r before e f o p a b = (entry_one e f (a.answer ∙ sym b.answer), a.written ∙ sym b.written)
   where
-    at : Tested (eqb a.number 0) → shown_search (search_of a) ≡ a
-    at (passes e) =
-        let nought = eqb-true a.number 0 e in
-        simp e (λ i. record { number = sym nought i; place = sym (clean nought) i; die = a.die; at = a.at })
-    at (fails e) =
-        let rest = none (eqb-false a.number 0 e) in
-        simp e (λ i. record { number = a.number; place = a.place; die = sym rest.0 i; at = sym rest.1 i })
-
--- the numbers of an answer of filing are those that it was made of
-pub shown_filed : (a : FilingAnswer) → (a.number ≡ 0 → a.place ≡ 0) → ((a.number ≡ 0 → ⊥) → a.count ≡ 0) → shown_filing (filing_of a) ≡ a
-unfolding shown_filing filing_of
-shown_filed a clean none = at (tested (eqb a.number 0))
-  where
-    at : Tested (eqb a.number 0) → shown_filing (filing_of a) ≡ a
-    at (passes e) =
-        let nought = eqb-true a.number 0 e in
-        simp e (λ i. record { number = sym nought i; place = sym (clean nought) i; count = a.count })
-    at (fails e) =
-        let rest = none (eqb-false a.number 0 e) in
-        simp e (λ i. record { number = a.number; place = a.place; count = sym rest i })
-
--- the numbers that search's answer stands for are the definition's
-pub shown_search_lem : (g : Given) (D : Drawer) → shown_search (search_of (search_answer g D)) ≡ search_answer g D
-unfolding search_answer accepts
-shown_search_lem g D = shown_searched (search_answer g D) (clean (tested (eqb (judge_search g D).number 0))) (none (tested (eqb (judge_search g D).number 0)))
-  where
-    clean : Tested (eqb (judge_search g D).number 0) → (search_answer g D).number ≡ 0 → (search_answer g D).place ≡ 0
-    clean (passes e) nought = simp e
-    clean (fails e) nought = absurd (eqb-false (judge_search g D).number 0 e (simp e at nought))
-
-    none : Tested (eqb (judge_search g D).number 0) → ((search_answer g D).number ≡ 0 → ⊥) → ((search_answer g D).die ≡ 0) × ((search_answer g D).at ≡ 0)
-    none (passes e) some = absurd (some (simp e))
-    none (fails e) some = (simp e, simp e)
-
--- the numbers that filing's answer stands for are the definition's
-pub shown_filing_lem : (die : ℕ) (g : Given) (D : Drawer) → shown_filing (filing_of (filing_answer die g D)) ≡ filing_answer die g D
-unfolding filing_answer accepts
-shown_filing_lem die g D = shown_filed (filing_answer die g D) (clean (tested (eqb (judge_filing die g D).number 0))) (none (tested (eqb (judge_filing die g D).number 0)))
-  where
-    clean : Tested (eqb (judge_filing die g D).number 0) → (filing_answer die g D).number ≡ 0 → (filing_answer die g D).place ≡ 0
-    clean (passes e) nought = simp e
-    clean (fails e) nought = absurd (eqb-false (judge_filing die g D).number 0 e (simp e at nought))
-
-    none : Tested (eqb (judge_filing die g D).number 0) → ((filing_answer die g D).number ≡ 0 → ⊥) → (filing_answer die g D).count ≡ 0
-    none (passes e) some = absurd (some (simp e))
-    none (fails e) some = simp e
-
-pub drawer_only : (D : Drawer) (r s : Judged) → r ≡ judged_of (drawer_answer D) → s ≡ judged_of (drawer_answer D) → r ≡ s
-drawer_only D r s a b = a ∙ sym b
-
-pub search_only : (g : Given) (D : Drawer) (r s : Search) → r ≡ search_of (search_answer g D) → s ≡ search_of (search_answer g D) → r ≡ s
-search_only g D r s a b = a ∙ sym b
-
-pub own_bytes_only : (g : Given) (D : Drawer) (r s : List ℕ) → r ≡ own_bytes g D → s ≡ own_bytes g D → r ≡ s
-own_bytes_only g D r s a b = a ∙ sym b
-
--- neither another answer nor other bytes
-pub filing_only : (die : ℕ) (g : Given) (D : Drawer) (r s : Filing) (o p : List ℕ) → FilesAs die g D r o → FilesAs die g D s p → (r ≡ s) × (o ≡ p)
-filing_only die g D r s o p a b = (a.answer ∙ sym b.answer, a.written ∙ sym b.written)
+    entry_one : (e f : Option Entry) → shown_entry e r ≡ shown_entry f r → e ≡ f
+    entry_one None None is = refl
+    entry_one None (Some f) is = cc
+    entry_one (Some e) None is = cc
+    entry_one (Some e) (Some f) is =
+        let parts = entry_parts _ _ is in
+        λ i. Some (record { die = parts.0 i; reading = reading_one e.reading f.reading r parts.1 i })

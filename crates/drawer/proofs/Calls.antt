@@ -1,55 +1,81 @@
--- The laws behind search and filing: what each answers, by what its code has found so far.
---     accepted_within        the records of a drawer that the check accepts lie inside its bytes
---     made_layout, made_long, made_comparable
---                            what a record made of a die and an accepted map says
---     search_checked, search_judged, search_missed, search_there, search_named
---                            what search answers
---     own_named, own_none    and which bytes it hands back
+-- The laws behind the check, search and filing: what each answers, by what its code has found so far.
+--     drawer_short, drawer_bad, drawer_good
+--                            13 and 14
 --     next_drawer, next_no_die, next_die, next_layout, next_over, next_room
 --                            13, 14 and 16 to 18, in their order
---     filing_checked, filing_judged, filing_done
+--     made_layout, made_long  what a record made of a die and an accepted map says
+--     search_map, search_drawer, search_missed, search_passed
+--                            what search comes to
+--     record_high            the first record with a layout is one of them
+--     shown_found, shown_refused, own_found, own_none
+--                            what search answers, and which bytes it hands back
+--     filing_map, filing_next, filing_done
 --                            what filing answers and leaves in the drawer
+--     check_laws, next_laws, search_laws, answer_laws
+--                            these, for the functions of `src/`
 -- Assumes nothing.
-use Prim.Native.Nat.{ℕ, ◌+◌, ◌*◌, ◌≤◌, ◌<◌}
+use Prim.Native.Nat.{ℕ, ◌+◌, ◌-◌, ◌*◌, ◌≤◌, ◌<◌}
 use mathlib.Core.Path.{◌≡◌, sym, ap, ◌∙◌}
-use mathlib.Core.Bool.{Bool, true, false, ◌&&◌}
+use mathlib.Core.Bool.{true, ◌&&◌}
 use mathlib.Core.List.{List, [], ◌∷◌, ◌++◌, append_assoc}
 use mathlib.Core.Logic.{◌⊎◌}
 use native.Mathlib.Omega.{arith}
-use borrow.Author.Tests.{ne_eqb, le-leb, lt-leb}
+use borrow.Author.Rules.{rules}
+use borrow.Rule.Slice.PartMut.{put_mid}
+use borrow.Author.Tests.{le-leb, lt-leb}
 use lib.Dec.{leb}
 use lib.ListN.{length, take, drop}
+use Rattle.std.specs.Prelude.{None, Some, Ok, Err}
+use Rattle.std.proofs.lemmas.Slice.{overwrites}
+use Rattle.maps.specs.Least.{least, found_at}
 use Rattle.maps.specs.Given.{Given, map_of}
 use Rattle.maps.specs.Verdict.{Verdict, accepted, refused, accepts, unless, at_least, in_order}
-use Rattle.maps.specs.Answer.{judged_of}
-use Rattle.maps.specs.declared.Judged.TheVariants as judged
-use Rattle.maps.specs.declared.Judged.TheVariants.{Refused}
-use Rattle.maps.proofs.Least.{Tested, passes, fails, tested}
-use Rattle.maps.proofs.Answer.{passed_accepts, refused-accepts, refused_is, refused_low}
-use Rattle.maps.proofs.Verdict.{refused_refuses, in_order_passed, in_order_refused, in_order_first, in_order_on, in_order_last, unless_passed, unless_refused, at_least-some, at_least_none}
+use Rattle.maps.specs.Shown.{shown_refusal}
+use Rattle.maps.specs.declared.Refusal.{Refusal}
+use Rattle.maps.proofs.Least.{least_le, some_is, none_is}
+use Rattle.maps.proofs.Verdict.{in_order_refused, in_order_first, in_order_on, in_order_last, unless_passed, unless_refused, at_least-some, at_least_none}
 use Rattle.labels.specs.Judging.{check_answer}
 use Rattle.labels.specs.Theorems.{CheckAccepts}
-use Rattle.labels.proofs.Judging.{check_whole}
 use Rattle.labels.proofs.Theorems.{check_accepts}
 use Rattle.drawer.specs.Record.{Filed, record_size, record_bytes, filed_in}
-use Rattle.drawer.specs.Drawer.{Drawer, drawer, most_records, record_at, entry_at, drawer_answer, layout_of, record_of, record_of_die, judge_search, search_answer, own_bytes, judge_next, judge_filing, filing_answer, filed_bytes}
-use Rattle.drawer.specs.Theorems.{found}
-use Rattle.drawer.specs.Answers.{search_of, filing_of, FilesAs}
-use Rattle.drawer.specs.Inside.{Within, HasRecord, Comparable}
-use Rattle.drawer.specs.declared.search.Search.TheVariants as search
-use Rattle.drawer.specs.declared.file.Filing.TheVariants as filing
+use Rattle.drawer.specs.Drawer.{Drawer, most_records, record_at, entry_at, bad_record, judge_count, judge_records, drawer_answer, layout_of, record_of, record_of_die, judge_search, search_answer, own_bytes, judge_next, judge_filing, filing_answer, filed_bytes}
+use Rattle.drawer.specs.Shown.{shown_drawer}
+use Rattle.drawer.specs.Answers.{shown_search, FilesAs}
+use Rattle.drawer.specs.declared.refusal.DrawerRefusal.{DrawerRefusal}
+use Rattle.drawer.specs.declared.refusal.DrawerRefusal.TheVariants.{Map}
+use Rattle.drawer.proofs.Shown.{drawer_refuses}
 use Rattle.drawer.proofs.Record.{Fits, length_record_bytes, filed_in_record_bytes}
 use Rattle.drawer.proofs.Readings.{filing_fits}
-use Rattle.drawer.proofs.Lines.{bounds_fail, record_of_found}
-use Rattle.drawer.proofs.Drawer.{check_good, drawer_whole, search_found, search_none, search_passed, own_refused}
-use Rattle.drawer.proofs.Filings.{filing_passed}
-use Rattle.drawer.proofs.Checking.{within_fewer}
+use Rattle.drawer.proofs.Lines.{bounds_fail}
 
-pub accepted_within : (count : ℕ) (bytes : List ℕ) → accepts (drawer_answer (drawer count bytes)) ≡ true → Within count bytes
-unfolding most_records record_size
-accepted_within count bytes e = let h = check_good _ (drawer_whole _ e) in record { few = h.few; inside = h.within }
+-- a refusal that comes first is the answer
+first_refused : (r : DrawerRefusal) (v : Verdict) (vs : List Verdict) → shown_drawer r ≡ v → shown_drawer r ≡ in_order (v ∷ vs)
+first_refused r v vs is = is ∙ sym (in_order_refused v vs (sym (ap accepts is) ∙ drawer_refuses r))
 
--- what stands against a die and a layout, one test after the other
+first_at_least : (k p q : ℕ) (vs : List Verdict) → 1 ≤ k → Some p ≡ found_at q → refused k p ≡ in_order (at_least k q ∷ vs)
+first_at_least k p q vs low is =
+    let h = some_is is in
+    sym (in_order_first (at_least k q) vs k p low (rw h.0 (at_least-some k p (λ z. omega (arith, h.1)))))
+
+past_at_least : (k q : ℕ) (vs : List Verdict) → None ≡ found_at q → in_order (at_least k q ∷ vs) ≡ in_order vs
+past_at_least k q vs is = in_order_on (at_least k q) vs (at_least_none k q (none_is is))
+
+-- the drawer check
+module _ (D : Drawer) where
+  pub drawer_short : (r : DrawerRefusal) → shown_drawer r ≡ judge_count D → shown_drawer r ≡ drawer_answer D
+  unfolding drawer_answer
+  drawer_short r is = first_refused r _ _ is
+
+  module _ (counted : judge_count D ≡ accepted) where
+    pub drawer_bad : (k : ℕ) → Some k ≡ found_at (least D.count (bad_record D.bytes)) → refused 14 k ≡ drawer_answer D
+    unfolding drawer_answer judge_records
+    drawer_bad k is = first_at_least 14 k _ [] (omega arith) is ∙ sym (in_order_on _ _ counted)
+
+    pub drawer_good : None ≡ found_at (least D.count (bad_record D.bytes)) → drawer_answer D ≡ accepted
+    unfolding drawer_answer judge_records
+    drawer_good none = in_order_on _ _ counted ∙ in_order_last _ (at_least_none 14 _ (none_is none))
+
+-- what stands against a die and a layout as the next record
 module _ (die : ℕ) (l : Given) (D : Drawer) where
   -- what is left of the verdicts after each test
   abbrev room_left : List Verdict
@@ -61,56 +87,58 @@ module _ (die : ℕ) (l : Given) (D : Drawer) where
   abbrev die_left : List Verdict
   die_left = at_least 16 (record_of_die die D) ∷ layout_left
 
-  pub next_drawer : accepts (drawer_answer D) ≡ false → in_order (judge_next die l D) ≡ drawer_answer D
+  pub next_drawer : (r : DrawerRefusal) → shown_drawer r ≡ drawer_answer D → shown_drawer r ≡ in_order (judge_next die l D)
   unfolding judge_next
-  next_drawer e = in_order_refused _ _ e
+  next_drawer r is = first_refused r _ _ is
 
-  module _ (checked : accepts (drawer_answer D) ≡ true) where
+  module _ (fine : drawer_answer D ≡ accepted) where
     past_drawer : in_order (judge_next die l D) ≡ in_order (unless (leb 1 die) 16 0 ∷ die_left)
     unfolding judge_next
-    past_drawer = in_order_passed _ _ checked
+    past_drawer = in_order_on _ _ fine
 
-    pub next_no_die : die ≡ 0 → in_order (judge_next die l D) ≡ refused 16 0
-    next_no_die none = past_drawer ∙ in_order_first _ _ 16 0 (omega arith) (unless_refused _ 16 0 (lt-leb 1 die (omega arith)))
+    pub next_no_die : die ≡ 0 → refused 16 0 ≡ in_order (judge_next die l D)
+    next_no_die none = sym (past_drawer ∙ in_order_first _ _ 16 0 (omega arith) (unless_refused _ 16 0 (lt-leb 1 die (omega arith))))
 
     module _ (some_die : die ≡ 0 → ⊥) where
       past_no_die : in_order (judge_next die l D) ≡ in_order die_left
       past_no_die = past_drawer ∙ in_order_on _ die_left (unless_passed _ 16 0 (le-leb 1 die (omega arith)))
 
-      pub next_die : (k : ℕ) → k ≡ record_of_die die D → (k ≡ 0 → ⊥) → in_order (judge_next die l D) ≡ refused 16 k
-      next_die k is some-record = past_no_die ∙ in_order_first _ _ 16 k (omega arith) (ap (at_least 16) (sym is) ∙ at_least-some 16 k some-record)
+      pub next_die : (k : ℕ) → Some k ≡ found_at (record_of_die die D) → refused 16 k ≡ in_order (judge_next die l D)
+      next_die k is = first_at_least 16 k _ _ (omega arith) is ∙ sym past_no_die
 
-      module _ (no_die : 0 ≡ record_of_die die D) where
+      module _ (no_die : None ≡ found_at (record_of_die die D)) where
         past_die : in_order (judge_next die l D) ≡ in_order layout_left
-        past_die = past_no_die ∙ in_order_on _ layout_left (at_least_none 16 _ (sym no_die))
+        past_die = past_no_die ∙ past_at_least 16 _ _ no_die
 
-        pub next_layout : (k : ℕ) → k ≡ record_of l D → (k ≡ 0 → ⊥) → in_order (judge_next die l D) ≡ refused 17 k
-        next_layout k is some-record = past_die ∙ in_order_first _ _ 17 k (omega arith) (ap (at_least 17) (sym is) ∙ at_least-some 17 k some-record)
+        pub next_layout : (k : ℕ) → Some k ≡ found_at (record_of l D) → refused 17 k ≡ in_order (judge_next die l D)
+        next_layout k is = first_at_least 17 k _ _ (omega arith) is ∙ sym past_die
 
-        module _ (no-layout : 0 ≡ record_of l D) where
+        module _ (no_layout : None ≡ found_at (record_of l D)) where
           past_layout : in_order (judge_next die l D) ≡ in_order room_left
-          past_layout = past_die ∙ in_order_on _ room_left (at_least_none 17 _ (sym no-layout))
+          past_layout = past_die ∙ past_at_least 17 _ _ no_layout
 
-          pub next_over : (1024 < D.count + 1) ⊎ (length D.bytes < (D.count + 1) * 2048) → in_order (judge_next die l D) ≡ refused 18 0
+          pub next_over : (1024 < D.count + 1) ⊎ (length D.bytes < (D.count + 1) * 2048) → refused 18 0 ≡ in_order (judge_next die l D)
           unfolding most_records record_size
           next_over h =
-              past_layout
-              ∙ in_order_first _ _ 18 0 (omega arith) (unless_refused _ 18 0 ((bounds_fail (D.count + 1) 1024 ((D.count + 1) * 2048) (length D.bytes)).1 h))
+              sym
+              (past_layout
+              ∙ in_order_first _ _ 18 0 (omega arith) (unless_refused _ 18 0 ((bounds_fail (D.count + 1) 1024 ((D.count + 1) * 2048) (length D.bytes)).1 h)))
 
-          pub next_room : D.count + 1 ≤ 1024 → (D.count + 1) * 2048 ≤ length D.bytes → in_order (judge_next die l D) ≡ accepted
+          pub next_room : D.count + 1 ≤ 1024 → (D.count + 1) * 2048 ≤ length D.bytes → accepted ≡ in_order (judge_next die l D)
           unfolding most_records record_size
           next_room few room =
-              past_layout
-              ∙ in_order_last _ (unless_passed _ 18 0 (simp (le-leb (D.count + 1) 1024 few, le-leb ((D.count + 1) * 2048) (length D.bytes) room)))
+              sym
+              (past_layout
+              ∙ in_order_last _ (unless_passed _ 18 0 (simp (le-leb (D.count + 1) 1024 few, le-leb ((D.count + 1) * 2048) (length D.bytes) room))))
 
 -- a record made of a die and an accepted map
-module _ (die : ℕ) (g : Given) (small : die ≤ 4294967295) (takes : accepts (check_answer g) ≡ true) where
+module _ (die : ℕ) (g : Given) (small : die ≤ 4294967295) (takes : check_answer g ≡ accepted) where
   abbrev filed : Filed
   filed = record { die = die; layout = layout_of g }
 
   fits : Fits filed
   unfolding CheckAccepts layout_of map_of
-  fits = filing_fits ((check_accepts g).0 (check_whole g takes)).1 die small
+  fits = filing_fits ((check_accepts g).0 takes).1 die small
 
   pub made_layout : (filed_in (record_bytes filed)).layout ≡ layout_of g
   made_layout = ap (λ (f : Filed). f.layout) (filed_in_record_bytes filed fits)
@@ -118,115 +146,90 @@ module _ (die : ℕ) (g : Given) (small : die ≤ 4294967295) (takes : accepts (
   pub made_long : length (record_bytes filed) ≡ record_size
   made_long = length_record_bytes filed fits.long fits.small
 
-  pub made_comparable : Comparable (record_bytes filed)
-  made_comparable = record { long = made_long; small = omega (arith, ap (λ (l : Given). l.n * l.m) made_layout, fits.small) }
+pub record_high : (l : Given) (D : Drawer) → record_of l D ≤ D.count
+unfolding record_of
+record_high l D = least_le _ D.count
 
+-- what search comes to
 module _ (g : Given) (D : Drawer) where
-  -- a refusal goes straight back
-  search_back : (k p : ℕ) → 1 ≤ k → judge_search g D ≡ refused k p → search.Refused k p ≡ search_of (search_answer g D)
-  unfolding search_of search_answer refused
-  search_back k p low is =
-      let refuses : accepts (refused k p) ≡ false = refused_refuses k p low in
-      rw is (simp (refuses, ne_eqb k 0 (λ z. omega arith)))
-
-  pub search_checked : (k p : ℕ) → Refused k p ≡ judged_of (check_answer g) → search.Refused k p ≡ search_of (search_answer g D)
+  pub search_map : (r : Refusal) → shown_refusal r ≡ check_answer g → shown_drawer (Map r) ≡ judge_search g D
   unfolding judge_search
-  search_checked k p is = search_back k p (refused_low _ k p is) (in_order_refused _ _ (refused-accepts _ k p is) ∙ refused_is _ k p is)
+  search_map r is = first_refused (Map r) _ _ is
 
-  module _ (takes : accepts (check_answer g) ≡ true) where
-    pub search_judged : (k p : ℕ) → Refused k p ≡ judged_of (drawer_answer D) → search.Refused k p ≡ search_of (search_answer g D)
+  module _ (takes : check_answer g ≡ accepted) where
+    pub search_drawer : (r : DrawerRefusal) → shown_drawer r ≡ drawer_answer D → shown_drawer r ≡ judge_search g D
     unfolding judge_search
-    search_judged k p is =
-        search_back k p (refused_low _ k p is)
-        (in_order_passed _ _ takes ∙ in_order_refused _ _ (refused-accepts _ k p is) ∙ refused_is _ k p is)
+    search_drawer r is = first_refused r _ _ is ∙ sym (in_order_on _ _ takes)
 
-    module _ (fine : accepts (drawer_answer D) ≡ true) where
-      pub search_missed : 0 ≡ record_of (layout_of g) D → search.Refused 15 0 ≡ search_of (search_answer g D)
-      unfolding search_of
-      search_missed none = ap search_of (sym (search_none g D (check_whole g takes) (drawer_whole D fine) (sym none)))
+    module _ (fine : drawer_answer D ≡ accepted) where
+      past_drawer_check : judge_search g D ≡ in_order (unless (leb 1 (record_of (layout_of g) D)) 15 0 ∷ [])
+      unfolding judge_search
+      past_drawer_check = in_order_on _ _ takes ∙ in_order_on _ _ fine
 
-      -- the record that is found lies inside the bytes
-      pub search_there : (k : ℕ) → k ≡ record_of (layout_of g) D → (k ≡ 0 → ⊥) → HasRecord k D.bytes
-      search_there k is some-record =
-          let f = (record_of_found D (layout_of g) (omega (arith, is))).0 in
-          record { low = omega arith; within = within_fewer k (accepted_within D.count D.bytes fine) (omega (arith, is, f.1)) }
+      pub search_missed : None ≡ found_at (record_of (layout_of g) D) → refused 15 0 ≡ judge_search g D
+      search_missed none =
+          let z = none_is none in
+          sym (past_drawer_check ∙ in_order_first _ _ 15 0 (omega arith) (unless_refused _ 15 0 (lt-leb 1 (record_of (layout_of g) D) (omega arith))))
 
-      pub search_named : (k x : ℕ) → k ≡ record_of (layout_of g) D → (k ≡ 0 → ⊥) → x ≡ (entry_at D.bytes k).die → search.Found x k ≡ search_of (search_answer g D)
-      unfolding search_of
-      search_named k x is some-record named =
-          let answer = search_found g D (check_whole g takes) (drawer_whole D fine) (omega arith) in
-          ap search_of (sym (answer ∙ ap (λ (j : ℕ). found j (entry_at D.bytes j).die) (sym is) ∙ ap (found k) (sym named)))
+      pub search_passed : (k : ℕ) → Some k ≡ found_at (record_of (layout_of g) D) → judge_search g D ≡ accepted
+      search_passed k is =
+          let h = some_is is in
+          past_drawer_check ∙ in_order_last _ (unless_passed _ 15 0 (le-leb 1 (record_of (layout_of g) D) (omega (arith, h.0, h.1))))
 
--- the bytes handed back, by what search answers
-module _ (g : Given) (D : Drawer) where
-  abbrev taken : Bool
-  taken = accepts (judge_search g D)
+  -- what it answers, and the bytes that it hands back
+  pub shown_found : judge_search g D ≡ accepted → (k die : ℕ) → k ≡ record_of (layout_of g) D → die ≡ (entry_at D.bytes k).die
+      → shown_search (Ok (record { die = die; at = k })) ≡ search_answer g D
+  unfolding search_answer accepts accepted
+  shown_found is k die at named = simp (is, ← at, named)
 
-  own_found : taken ≡ true → (x k : ℕ) → search.Found x k ≡ search_of (search_answer g D) → HasRecord k D.bytes × (record_at D.bytes k ≡ own_bytes g D)
-  unfolding search_of search_answer own_bytes most_records record_size
-  own_found e x k is =
-      let h = search_passed g D e in
-      let there = (record_of_found D (layout_of g) h.1).0 in
-      let named : search.Found x k ≡ search.Found (entry_at D.bytes (record_of (layout_of g) D)).die (record_of (layout_of g) D) = simp e at is in
-      let at : k ≡ record_of (layout_of g) D = cc in
-      let all : Within D.count D.bytes = record { few = h.0.few; inside = h.0.within } in
-      (record { low = omega (arith, there.0); within = within_fewer k all (omega (arith, there.1)) }, simp e (ap (record_at D.bytes) at))
+  pub shown_refused : (r : DrawerRefusal) → shown_drawer r ≡ judge_search g D → shown_search (Err r) ≡ search_answer g D
+  unfolding search_answer
+  shown_refused r is = rw (← is) (simp (drawer_refuses r))
 
-  pub own_named : (x k : ℕ) → search.Found x k ≡ search_of (search_answer g D) → HasRecord k D.bytes × (record_at D.bytes k ≡ own_bytes g D)
-  unfolding search_of search_answer accepts
-  own_named x k is = at (tested taken)
-    where
-      at : Tested taken → HasRecord k D.bytes × (record_at D.bytes k ≡ own_bytes g D)
-      at (passes e) = own_found e x k is
-      at (fails e) =
-          let other : search.Found x k ≡ search.Refused (judge_search g D).number (judge_search g D).place = simp (e, e) at is in
-          let z : ◌≡◌ {A = ℕ} 0 1 = cc in
-          absurd (omega arith)
+  pub own_found : judge_search g D ≡ accepted → (k : ℕ) → k ≡ record_of (layout_of g) D → record_at D.bytes k ≡ own_bytes g D
+  unfolding own_bytes accepts accepted
+  own_found is k at = simp (is, at)
 
-  pub own_none : (k p : ℕ) → search.Refused k p ≡ search_of (search_answer g D) → [] ≡ own_bytes g D
-  unfolding search_of search_answer
-  own_none k p is = at (tested taken)
-    where
-      at : Tested taken → [] ≡ own_bytes g D
-      at (fails e) = sym (own_refused g D e)
-      at (passes e) =
-          let other : search.Refused k p ≡ search.Found (entry_at D.bytes (record_of (layout_of g) D)).die (record_of (layout_of g) D) = simp e at is in
-          let z : ◌≡◌ {A = ℕ} 0 1 = cc in
-          absurd (omega arith)
+  pub own_none : (r : DrawerRefusal) → shown_drawer r ≡ judge_search g D → [] ≡ own_bytes g D
+  unfolding own_bytes
+  own_none r is = rw (← is) (simp (drawer_refuses r))
+
+part_over : (from : ℕ) (xs ys : List ℕ) → put_mid from (from + 2048 - from) xs ys ≡ take from xs ++ (ys ++ drop (from + 2048) xs)
+part_over from xs ys = search (rules, overwrites)
 
 -- what filing answers and leaves, by what it has found
 module _ (die : ℕ) (g : Given) (D : Drawer) where
-  filing_back : (k p : ℕ) → 1 ≤ k → judge_filing die g D ≡ refused k p → FilesAs die g D (filing.Refused k p) D.bytes
-  unfolding filing_of filing_answer filed_bytes refused
-  filing_back k p low is =
-      let refuses : accepts (refused k p) ≡ false = refused_refuses k p low in
-      record { answer = rw is (simp (refuses, ne_eqb k 0 (λ z. omega arith))); written = rw is (simp refuses) }
+  filing_refused : (r : DrawerRefusal) → shown_drawer r ≡ judge_filing die g D → FilesAs die g D (Err r) D.bytes
+  unfolding filing_answer filed_bytes
+  filing_refused r is = record { answer = rw (← is) (simp (drawer_refuses r)); written = rw (← is) (simp (drawer_refuses r)) }
 
-  pub filing_checked : (k p : ℕ) → Refused k p ≡ judged_of (check_answer g) → FilesAs die g D (filing.Refused k p) D.bytes
+  pub filing_map : (r : Refusal) → shown_refusal r ≡ check_answer g → FilesAs die g D (Err (Map r)) D.bytes
   unfolding judge_filing
-  filing_checked k p is = filing_back k p (refused_low _ k p is) (in_order_refused _ _ (refused-accepts _ k p is) ∙ refused_is _ k p is)
+  filing_map r is = filing_refused (Map r) (first_refused (Map r) _ _ is)
 
-  module _ (takes : accepts (check_answer g) ≡ true) where
-    -- past the map's own numbers
-    judging_next : judge_filing die g D ≡ in_order (judge_next die (layout_of g) D)
+  module _ (takes : check_answer g ≡ accepted) where
+    pub filing_next : (r : DrawerRefusal) → shown_drawer r ≡ in_order (judge_next die (layout_of g) D) → FilesAs die g D (Err r) D.bytes
     unfolding judge_filing
-    judging_next = in_order_passed _ _ takes
+    filing_next r is = filing_refused r (is ∙ sym (in_order_on _ _ takes))
 
-    pub filing_judged : (k p : ℕ) → Refused k p ≡ judged_of (in_order (judge_next die (layout_of g) D)) → FilesAs die g D (filing.Refused k p) D.bytes
-    filing_judged k p is = filing_back k p (refused_low _ k p is) (judging_next ∙ refused_is _ k p is)
-
-    module _ (passed : judged.Passed ≡ judged_of (in_order (judge_next die (layout_of g) D))) where
+    module _ (passed : accepted ≡ in_order (judge_next die (layout_of g) D)) where
       accepting : accepts (judge_filing die g D) ≡ true
-      accepting = ap accepts judging_next ∙ passed_accepts _ passed
+      unfolding judge_filing accepts accepted
+      accepting = ap accepts (in_order_on _ _ takes ∙ sym passed)
 
-      pub next_within : Within (D.count + 1) D.bytes
-      unfolding most_records record_size
-      next_within = let h = filing_passed die g D accepting in record { few = h.few; inside = h.room }
-
-      pub filing_done : (after : List ℕ) →
-          after ≡ take (D.count * 2048) D.bytes ++ (record_bytes (record { die = die; layout = layout_of g }) ++ drop (D.count * 2048 + record_size) D.bytes)
-          → FilesAs die g D (filing.Filed (D.count + 1)) after
-      unfolding filing_of filing_answer filed_bytes record_size
-      filing_done after is =
+      -- the bytes `filed` are laid where the next record stands
+      pub filing_done : (filed : List ℕ) → filed ≡ record_bytes (record { die = die; layout = layout_of g })
+          → FilesAs die g D (Ok (D.count + 1)) (put_mid (D.count * 2048) (D.count * 2048 + 2048 - D.count * 2048) D.bytes filed)
+      unfolding filing_answer filed_bytes record_size
+      filing_done filed is =
+          let from = D.count * 2048 in
           let next : D.count * 2048 + 2048 ≡ (D.count + 1) * 2048 = omega arith in
-          record { answer = simp accepting; written = simp accepting (is ∙ rw next (sym (append_assoc (take (D.count * 2048) D.bytes) _ _))) }
+          record { answer = simp accepting; written = simp accepting (part_over from D.bytes filed ∙ rw (is, next) (sym (append_assoc (take from D.bytes) _ _))) }
+
+pub ruleset check_laws = (drawer_short, drawer_bad, drawer_good)
+
+pub ruleset next_laws = (next_drawer, next_no_die, next_die, next_layout, next_over, next_room)
+
+pub ruleset search_laws = (search_map, search_drawer, search_missed, made_layout)
+
+pub ruleset answer_laws = (shown_found, shown_refused, record_high)

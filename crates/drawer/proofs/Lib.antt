@@ -12,5 +12,6 @@ pub mod Theorems
 pub mod Inside
 pub mod Checking
 pub mod Writing
+pub mod Shown
 pub mod Calls
 pub mod Answers

@@ -1,54 +1,56 @@
 // Search, and the record's own bytes.
-ghost use Rattle.std.specs.Prelude.{◌≡◌};
-ghost use Rattle.maps.specs.Given.{lent};
-ghost use Rattle.drawer.specs.Drawer.{drawer, search_answer, own_bytes};
-ghost use Rattle.drawer.specs.Answers.{search_of};
+ghost use Rattle.std.specs.Prelude.{◌≡◌, ◌≤◌, MatchResult};
+ghost use Rattle.maps.specs.Shown.{given};
+ghost use Rattle.maps.specs.Verdict.{accepted};
+ghost use Rattle.drawer.specs.Drawer.{layout_of, record_of, judge_search, search_answer, own_bytes};
+ghost use Rattle.drawer.specs.Shown.{lent_drawer, shown_drawer};
+ghost use Rattle.drawer.specs.Answers.{shown_search};
 
-use crate::check::{check_drawer, first_with_layout, record_at};
+use crate::check::good_drawer;
 use crate::fields::die_of;
+use crate::records::{Found, Held, Records};
+use crate::refusal::DrawerRefusal;
 use crate::write::make_record;
-use maps::Judged;
+use maps::Table;
 
-// The answer of search: the die number and the record number; or the display's number and place.
-#[derive(Clone, Copy)]
-pub enum Search {
-    Found { die: u32, at: usize },
-    Refused { number: u32, place: usize },
+// The records of the drawer, and which of them has the layout of a map. What is looked for has the form of a record, whose die is
+// not looked at.
+#[tactic(auto, using(crate::proofs::Calls::search_laws))]
+fn search<'a>(table: Table<'_>, drawer: Records<'a>) -> Result<(Held<'a>, usize), DrawerRefusal>
+    ensures { MatchResult result
+        (λ found. (found.0.records ≡ drawer.entry)
+        × (1 ≤ found.1)
+        × (found.1 ≡ record_of (layout_of (given table.entry)) (lent_drawer drawer.entry))
+        × (judge_search (given table.entry) (lent_drawer drawer.entry) ≡ accepted))
+        (λ refusal. shown_drawer refusal ≡ judge_search (given table.entry) (lent_drawer drawer.entry)) }
+{
+    let sought = make_record(0, table)?;
+    let held = good_drawer(drawer)?;
+    match held.with_layout(&sought) {
+        Some(at) => Ok((held, at)),
+        None => Err(DrawerRefusal::NotFound),
+    }
 }
 
-// Finds the record whose layout has a matching with a map, for whatever a caller hands in. What is looked for has the form of a
-// record, whose die is not looked at.
-pub fn search_drawer(n: usize, m: usize, table: &[u16], count: usize, bytes: &[u8]) -> Search
-    ensures { result ≡ search_of (search_answer (lent n m table.now) (drawer count bytes.now)) }
+// Finds the record whose layout has a matching with a map, for whatever a caller hands in.
+#[tactic(auto, using(crate::proofs::Calls::answer_laws), unfolding(crate::specs::Drawer::entry_at))]
+pub fn search_drawer(table: Table<'_>, drawer: Records<'_>) -> Result<Found, DrawerRefusal>
+    ensures { shown_search result ≡ search_answer (given table.entry) (lent_drawer drawer.entry) }
 {
-    let mut sought = [0u8; 2048];
-    let judged = make_record(0, n, m, table, &mut sought);
-    if let Judged::Refused { number, place } = judged {
-        return Search::Refused { number, place };
-    }
-    let checked = check_drawer(count, bytes);
-    if let Judged::Refused { number, place } = checked {
-        return Search::Refused { number, place };
-    }
-    let at = first_with_layout(count, bytes, &sought);
-    if at == 0 {
-        return Search::Refused {
-            number: 15,
-            place: 0,
-        };
-    }
-    Search::Found {
-        die: die_of(record_at(bytes, at)),
+    let (held, at) = search(table, drawer)?;
+    Ok(Found {
+        die: die_of(held.record(at)),
         at,
-    }
+    })
 }
 
 // The bytes of the record that search names, as that part of the drawer; none where it refuses.
-pub fn found<'a>(n: usize, m: usize, table: &[u16], count: usize, bytes: &'a [u8]) -> &'a [u8]
-    ensures { result.now ≡ own_bytes (lent n m table.now) (drawer count bytes.now) }
+#[tactic(auto, using(crate::proofs::Calls::record_high))]
+pub fn found<'a>(table: Table<'_>, drawer: Records<'a>) -> &'a [u8]
+    ensures { result.now ≡ own_bytes (given table.entry) (lent_drawer drawer.entry) }
 {
-    let Search::Found { at, .. } = search_drawer(n, m, table, count, bytes) else {
-        return &bytes[..0];
-    };
-    record_at(bytes, at)
+    match search(table, drawer) {
+        Ok((held, at)) => held.record(at),
+        Err(_) => &drawer.bytes[..0],
+    }
 }

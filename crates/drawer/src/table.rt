@@ -1,52 +1,64 @@
 // A record with any dart table in place of the signature: what the layout lister reads.
-ghost use Rattle.std.specs.Prelude.{◌≡◌, length};
+ghost use Rattle.std.specs.Prelude.{◌≡◌, ◌≢◌, ◌*◌, ◌≤◌, length, IfOk, MatchOption};
 ghost use Rattle.drawer.specs.Record.{record_size, read_table};
 ghost use Rattle.drawer.specs.Answers.{reading_of, ReadsAs};
 
-use crate::fields::{Reading, die_of, read_header, read_word};
-use maps::Judged;
+use crate::fields::{Layout, Record, RecordFault, die_of, read_header, read_word};
+use maps::Table;
 
-// The die number as it stands, and the reading; or nothing, where the bytes are not 2,048 or the list has no room for 1,020 numbers.
-#[derive(Clone, Copy)]
-pub enum Entry {
-    Unread,
-    Read { die: u32, reading: Reading },
+// The die number as it stands, and the reading.
+#[derive(Clone, Copy, Debug, PartialEq, Eq)]
+pub struct Entry {
+    pub die: u32,
+    pub reading: Result<Layout, RecordFault>,
+}
+
+// The bytes as those of a record, where they are 2,048.
+#[tactic(auto, unfolding(crate::specs::Record::record_size))]
+fn record_in(bytes: &[u8]) -> Option<&Record>
+    ensures { MatchOption result
+        (length bytes.now ≢ record_size)
+        (λ filed. (length bytes.now ≡ record_size) × (filed.now ≡ bytes.now)) }
+{
+    <&Record>::try_from(bytes).ok()
 }
 
 // The reading of a record whose word may be any accepted map.
-fn judge_table(bytes: &[u8]) -> Reading
-    requires { length bytes.now ≡ record_size }
-    ensures { reading_of result bytes.now ≡ read_table bytes.now }
+#[tactic(auto, using(crate::proofs::Inside::table_fault))]
+fn judge_table(filed: &Record) -> Result<Layout, RecordFault>
+    ensures reads { reading_of result filed.now ≡ read_table filed.now }
+    ensures small { IfOk result (λ l. l.n * l.m ≤ 1020) }
 {
-    let header = read_header(bytes);
-    let Reading::Layout { die, n, m } = header else {
+    let header = read_header(filed);
+    let Ok(layout) = header else {
         return header;
     };
-    let size = n * m;
-    let mut word = [0u16; 1020];
-    read_word(bytes, size, &mut word);
-    let judged = labels::check(n, m, &word[..size]);
-    if let Judged::Refused { number, place } = judged {
-        return Reading::NoMap { number, place };
-    }
-    Reading::Layout { die, n, m }
+    let Layout { n, m, .. } = layout;
+    let mut word = [0; 1020];
+    read_word(filed, n * m, &mut word);
+    labels::check(Table {
+        n,
+        m,
+        numbers: &word[..n * m],
+    })?;
+    Ok(layout)
 }
 
-// Reads a record, for whatever a caller hands in. The table of an accepted map is put in front of the list.
-pub fn read_table(bytes: &[u8], table: &mut [u16]) -> Entry
+// Reads a record, for whatever a caller hands in: nothing where the bytes are not 2,048 or the list has no room for 1,020 numbers.
+// The table of an accepted map is put in front of the list.
+pub fn read_table(bytes: &[u8], table: &mut [u16]) -> Option<Entry>
     ensures { ReadsAs bytes.now table.old result table.new }
 {
-    if bytes.len() != 2048 {
-        return Entry::Unread;
-    }
+    let filed = record_in(bytes)?;
     if table.len() < 1020 {
-        return Entry::Unread;
+        return None;
     }
-    let die = die_of(bytes);
-    let reading = judge_table(bytes);
-    let Reading::Layout { n, m, .. } = reading else {
-        return Entry::Read { die, reading };
-    };
-    read_word(bytes, n * m, table);
-    Entry::Read { die, reading }
+    let reading = judge_table(filed);
+    if let Ok(layout) = reading {
+        read_word(filed, layout.n * layout.m, table);
+    }
+    Some(Entry {
+        die: die_of(filed),
+        reading,
+    })
 }

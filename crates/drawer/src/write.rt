@@ -1,72 +1,63 @@
 // A record written: the bytes of a die and of the signature of a map.
-ghost use Rattle.std.specs.Prelude.{◌≡◌, ◌+◌, ◌*◌, take, drop, replicate};
-ghost use mathlib.Core.List.{◌++◌, flat_map};
-ghost use Rattle.maps.specs.Given.{lent};
-ghost use Rattle.drawer.specs.Record.{to_bytes, record_size, record_bytes};
-ghost use Rattle.drawer.specs.Inside.{Puts, PutsWord, Writes, Made};
+ghost use Rattle.std.specs.Prelude.{◌≡◌, ◌++◌, drop, MatchResult};
+ghost use Rattle.maps.specs.Given.{Shaped};
+ghost use Rattle.maps.specs.Shown.{given, shown_refusal};
+ghost use Rattle.maps.specs.Verdict.{accepted};
+ghost use Rattle.labels.specs.Judging.{check_answer};
+ghost use Rattle.drawer.specs.Record.{record_bytes};
+ghost use Rattle.drawer.specs.Drawer.{layout_of};
 
-use maps::Judged;
-use words::Signed;
+use crate::fields::Record;
+use maps::{Refusal, Table};
 
-// A number is put in so many bytes, little end first.
-fn put(filed: &mut [u8; 2048], at: usize, size: usize, x: usize)
-    requires { Puts at size filed.old }
-    ensures { filed.new ≡ take at filed.old ++ (to_bytes size x ++ drop (at + size) filed.old) }
+// The bytes before the word are put.
+fn put_fields(filed: &mut Record, fields: &[u8; 8])
+    ensures { filed.new ≡ fields.now ++ drop 8 filed.old }
 {
-    let mut rest = x;
-    let mut i = 0;
-    while i < size {
-        filed[at + i] = (rest % 256) as u8;
-        rest = rest / 256;
-        i += 1;
+    filed[..8].copy_from_slice(fields);
+}
+
+// The record of a die and a layout.
+#[tactic(auto, using(crate::proofs::Writing::begun_turn))]
+fn record_of(die: u32, layout: Table<'_>) -> Record
+    requires { Shaped (given layout) }
+    ensures { result ≡ record_bytes (record { die = die; layout = given layout.entry }) }
+{
+    let Table {
+        n,
+        m,
+        numbers: word,
+    } = layout;
+    let [a, b, c, d] = die.to_le_bytes();
+    // The bounds of a map let both casts be: n is 1 to 4, and m at most 1,020.
+    let [low, high] = (m as u16).to_le_bytes();
+    let mut filed = [0; 2048];
+    put_fields(&mut filed, &[a, b, c, d, n as u8, 0, low, high]);
+    // Byte by byte: `copy_from_slice` of two bytes takes twenty times as long, since the loop is no longer one of vectors.
+    for (i, x) in word.iter().enumerate() {
+        let [low, high] = x.to_le_bytes();
+        filed[8 + 2 * i] = low;
+        filed[9 + 2 * i] = high;
     }
+    filed
 }
 
-fn wide(x: u16) -> usize
-    ensures { result ≡ x }
+// The record of a die and of the signature of a map, where the check accepts it.
+pub(crate) fn make_record(die: u32, table: Table<'_>) -> Result<Record, Refusal>
+    ensures { MatchResult result
+        (λ filed. (check_answer (given table.entry) ≡ accepted)
+        × (filed ≡ record_bytes (record { die = die; layout = layout_of (given table.entry) })))
+        (λ refusal. shown_refusal refusal ≡ check_answer (given table.entry)) }
 {
-    x as usize
-}
-
-// The numbers of a word are put after the first eight bytes.
-fn put_word(filed: &mut [u8; 2048], word: &[u16; 1020], size: usize)
-    requires { PutsWord size word.now filed.old }
-    ensures { filed.new ≡ take 8 filed.old ++ (flat_map (to_bytes 2) (take size word.now) ++ drop (8 + 2 * size) filed.old) }
-{
-    let mut i = 0;
-    while i < size {
-        put(filed, 8 + 2 * i, 2, wide(word[i]));
-        i += 1;
-    }
-}
-
-// A record that holds zeros becomes that of a die and a layout.
-fn write_record(filed: &mut [u8; 2048], die: u32, n: usize, m: usize, word: &[u16; 1020])
-    requires { Writes n m word.now filed.old }
-    ensures { filed.new ≡ record_bytes (record { die = die; layout = lent n m (take (n * m) word.now) }) }
-{
-    put(filed, 0, 4, die as usize);
-    put(filed, 4, 1, n);
-    put(filed, 6, 2, m);
-    put_word(filed, word, n * m);
-}
-
-// The record of a die and of the signature of a map, or the display's number and place.
-pub(crate) fn make_record(
-    die: u32,
-    n: usize,
-    m: usize,
-    table: &[u16],
-    filed: &mut [u8; 2048],
-) -> Judged
-    requires { filed.old ≡ replicate record_size 0 }
-    ensures { Made die (lent n m table.now) result filed.new }
-{
-    let mut word = [0u16; 1020];
-    let signed = words::signature(n, m, table, &mut word);
-    if let Signed::Refused { number, place } = signed {
-        return Judged::Refused { number, place };
-    }
-    write_record(filed, die, n, m, &word);
-    Judged::Passed
+    let Table { n, m, .. } = table;
+    let mut word = [0; 1020];
+    words::signature(table, &mut word)?;
+    Ok(record_of(
+        die,
+        Table {
+            n,
+            m,
+            numbers: &word[..n * m],
+        },
+    ))
 }

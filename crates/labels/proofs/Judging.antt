@@ -6,13 +6,14 @@
 --     table_shows, table_clear, clear_table  1 to 9, with the output that a call is lent
 --     table_nine, nine_before, nine_none, nine_refused
 --                                            1 to 9 by what 1 to 8 answer
+--     nine, passed_..                        what `judge` is proved by: where 1 to 8 refuse, and where they pass
 --     table_whole, check_whole, sewing_whole
 --                                            a table whose verdict accepts is accepted, at place 0
 --     shaped_map                             of a table in shape, 5 to 9 are left
 --     judges_only, check_only                no second answer fits
 -- Assumes nothing.
 use Prim.Native.Nat.{ℕ, ◌*◌, ◌≤◌, ◌<◌}
-use mathlib.Core.Path.{◌≡◌, sym, ap, ◌∙◌}
+use mathlib.Core.Path.{◌≡◌, refl, sym, ap, ◌∙◌}
 use mathlib.Core.Bool.{Bool, true, false}
 use mathlib.Core.List.{List, [], ◌∷◌}
 use mathlib.Core.Logic.{◌↔◌, ⊎_elim}
@@ -20,20 +21,24 @@ use native.Mathlib.Omega.{arith}
 use native.Mathlib.Nat.{eq-zero-or-pos}
 use borrow.Author.Tests.{eq-eqb, ne_eqb, eqb-true, eqb-false}
 use lib.Dec.{eqb}
-use lib.ListN.{length}
+use lib.ListN.{length, replicate}
+use Rattle.std.specs.Prelude.{Result, Ok, Err, Some}
+use Rattle.maps.specs.Least.{found_at}
 use Rattle.maps.specs.Map.{Map, IsDart}
 use Rattle.maps.specs.Accepted.{ToDarts, OpenMap, Path, Connected, Accepted}
 use Rattle.maps.specs.Given.{Given, map_of, Shaped}
 use Rattle.maps.specs.Verdict.{Verdict, accepted, refused, accepts, unless, at_least, in_order}
 use Rattle.maps.specs.Lines.{Silent, Shows, shape_lines, room_lines, entry_lines, reach_line, map_lines, table_lines}
 use Rattle.maps.specs.Rules.{judge_shape, judge_output, judge_entries, judge_sewing}
-use Rattle.maps.specs.Answer.{judged_of}
-use Rattle.maps.specs.declared.Judged.{Judged}
+use Rattle.maps.specs.Shown.{verdict_of}
+use Rattle.maps.specs.Answer.{backs_of, JudgedAs}
+use Rattle.maps.specs.declared.Refusal.{Refusal}
+use Rattle.maps.specs.declared.Refusal.TheVariants.{NotReached}
 use Rattle.maps.specs.declared.Output.{Output}
-use Rattle.maps.proofs.Least.{Tested, passes, fails, tested, Found, least_none, none_least, least_found, least_is}
+use Rattle.maps.proofs.Least.{Tested, passes, fails, tested, Found, least_none, none_least, least_found, least_is, some_is, none_is}
 use Rattle.maps.proofs.Verdict.{in_order_passed, in_order_refused, in_order_first, in_order_one, in_order-accepts, at_least-some}
-use Rattle.maps.proofs.Lines.{Clear, clear, past, shows_clear, clear_shows, clear_join, clear_split, shows_then, shows_last, shows_least, shape_shows, shape_clear, room_shows, entries_shows, entries_clear}
-use Rattle.maps.proofs.Answer.{judged_only}
+use Rattle.maps.proofs.Lines.{Clear, clear, past, shows_clear, clear_shows, clear_join, clear_split, shows_then, shows_last, shows_least, shape_shows, shape_clear, room_shows, entries_shows, entries_clear, sewing_clear}
+use Rattle.maps.proofs.Answer.{judged_only, verdict_only, refusal_refuses, ok_accepts, as_refused}
 use Rattle.labels.specs.Queue.{label_in, labelling}
 use Rattle.labels.specs.Judging.{not_reached, judge_map, table_answer, check_answer, Judges}
 use Rattle.labels.proofs.Reached.{labelled_reached, reached_labelled}
@@ -205,6 +210,32 @@ module _ (o : Output) (g : Given) where
   pub nine_refused : accepts (judge_sewing o g) ≡ true → (p : ℕ) → p ≡ not_reached (map_of g) → (p ≡ 0 → ⊥) → table_answer o g ≡ refused 9 p
   nine_refused e p is some = table_nine o g ∙ in_order_passed _ _ e ∙ in_order_first _ _ 9 p (omega arith) (rw (← is) (at_least-some 9 p some))
 
+-- what 1 to 8 refuse goes straight back, and what they pass is accepted where rule 9 finds no dart
+pub ruleset nine = (nine_before, nine_none, refusal_refuses, none_is, sewing_whole)
+
+-- what 1 to 8 pass is in shape, its sewings lead to darts, and the array holds its β0
+module _ (o : Output) {g : Given} {r : Result Unit Refusal} {back : List ℕ} (judged : JudgedAs (judge_sewing o) g r back) (passed : r ≡ Ok tt) where
+  passed_accepts : accepts (judge_sewing o g) ≡ true
+  passed_accepts = ok_accepts tt (ap verdict_of (sym passed) ∙ judged.verdict)
+
+  passed_whole : Shaped g × OpenMap (map_of g)
+  passed_whole = sewing_clear _ _ (sewing_whole o g passed_accepts)
+
+  pub passed_shaped : Shaped g
+  passed_shaped = passed_whole.0
+
+  pub passed_within : ToDarts (map_of g)
+  passed_within = passed_whole.1.to_darts
+
+  pub passed_backs : back ≡ backs_of (map_of g)
+  passed_backs = judged.backs ∙ simp passed_accepts
+
+  -- and it is refused where rule 9 finds a dart
+  pub passed_refused : {p : ℕ} {labels : List ℕ} → Some p ≡ found_at (not_reached (map_of g)) → labels ≡ replicate 1020 0 → Judges o g (Err (NotReached p)) (replicate 1020 0) labels
+  passed_refused {p} found blank =
+      let is = some_is found in
+      record { answer = as_refused (NotReached p) (nine_refused o g passed_accepts p (sym is.0) (λ z. omega (arith, is.1))) refl; blank = blank }
+
 -- of a table in shape, 5 to 9 are left to the plain check
 pub shaped_map : (g : Given) → Shaped g → check_answer g ≡ judge_map (map_of g)
 unfolding check_answer table_answer judge_output judge_map accepts accepted in_order
@@ -217,9 +248,9 @@ unfolding check_answer
 check_whole g e = table_whole _ g e
 
 -- no second answer of `judge` fits, nor other contents of the arrays that it is lent
-pub judges_only : (o : Output) (g : Given) (r s : Judged) (b c l k : List ℕ) → Judges o g r b l → Judges o g s c k → (r ≡ s) × (b ≡ c) × (l ≡ k)
+pub judges_only : (o : Output) (g : Given) (r s : Result Unit Refusal) (b c l k : List ℕ) → Judges o g r b l → Judges o g s c k → (r ≡ s) × (b ≡ c) × (l ≡ k)
 judges_only o g r s b c l k x y = let same = judged_only (table_answer o) g r s b c x.answer y.answer in (same.0, same.1, x.blank ∙ sym y.blank)
 
 -- no second answer of the plain check fits
-pub check_only : (g : Given) (r s : Judged) → r ≡ judged_of (check_answer g) → s ≡ judged_of (check_answer g) → r ≡ s
-check_only g r s a b = a ∙ sym b
+pub check_only : (g : Given) (r s : Result Unit Refusal) → verdict_of r ≡ check_answer g → verdict_of s ≡ check_answer g → r ≡ s
+check_only g r s a b = verdict_only r s (a ∙ sym b)

@@ -5,14 +5,14 @@
 --     check_answer g       what the plain check answers: it is lent no output, so it never gives 4
 --     Judges               what `judge` answers and leaves in the arrays that it is lent
 -- Assumes nothing.
-use Rattle.std.specs.Prelude.{ℕ, ◌≡◌, List, [], ◌∷◌, eqb, replicate}
+use Rattle.std.specs.Prelude.{ℕ, ◌≡◌, List, [], ◌∷◌, eqb, replicate, Result}
 use Rattle.maps.specs.Least.{least}
 use Rattle.maps.specs.Map.{Map}
 use Rattle.maps.specs.Given.{Given, map_of}
 use Rattle.maps.specs.Verdict.{Verdict, at_least, in_order}
 use Rattle.maps.specs.Rules.{judge_shape, judge_output, judge_entries}
 use Rattle.maps.specs.Answer.{JudgedAs}
-use Rattle.maps.specs.declared.Judged.{Judged}
+use Rattle.maps.specs.declared.Refusal.{Refusal}
 use Rattle.maps.specs.declared.Output.{Output}
 use Rattle.maps.specs.declared.Output.TheVariants.{Nothing}
 use Rattle.labels.specs.Queue.{label_in, labelling}
@@ -34,6 +34,6 @@ unfoldable pub check_answer : Given → Verdict
 check_answer g = table_answer Nothing g
 
 -- the answer of `judge`, by the types of `src/`, with the array of β0 and the room to work in that it leaves
-pub record Judges (o : Output) (g : Given) (r : Judged) (back labels : List ℕ) : Type 0 where
+pub record Judges (o : Output) (g : Given) (r : Result Unit Refusal) (back labels : List ℕ) : Type 0 where
   pub answer : JudgedAs (table_answer o) g r back
   pub blank : labels ≡ replicate 1020 0

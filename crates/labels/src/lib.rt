@@ -2,167 +2,162 @@
 #![tactic(auto)]
 
 ghost use Rattle.std.specs.Prelude.{◌≡◌, ◌≤◌, take, replicate};
-ghost use Rattle.maps.specs.Given.{lent, map_of};
-ghost use Rattle.maps.specs.Answer.{judged_of};
-ghost use Rattle.labels.specs.Queue.{visit};
+ghost use Rattle.maps.specs.Least.{found_at};
+ghost use Rattle.maps.specs.Map.{IsDart, sew};
+ghost use Rattle.maps.specs.Accepted.{ToDarts};
+ghost use Rattle.maps.specs.Given.{map_of, Shaped};
+ghost use Rattle.maps.specs.Answer.{backs_of};
+ghost use Rattle.maps.specs.Shown.{given, verdict_of};
+ghost use Rattle.labels.specs.Queue.{visit, serve, labelling};
 ghost use Rattle.labels.specs.Judging.{not_reached, check_answer, Judges};
-ghost use Rattle.labels.specs.Inside.{Holds, Meets, Sewn, Serves, Served, Starts, Reaches, not_labelled, Clears};
+ghost use Rattle.labels.specs.Inside.{Labels, Holds, Meets, Serves, IsRow, not_labelled};
 
-use maps::{Judged, Output};
+use maps::{Output, Refusal, Table};
 
-// The labelling under way: how many labels are given.
+// A table that rules 1 to 8 have passed, with β0 of each dart.
+#[derive(Clone, Copy)]
+struct SewnTable<'a> {
+    table: Table<'a>,
+    back: &'a [u16; 1020],
+    ghost shaped: { Shaped (given table) },
+    ghost within: { ToDarts (map_of (given table)) },
+    ghost backs: { back.now ≡ backs_of (map_of (given table)) },
+}
+
+// The labelling under way: how many labels are given. It is passed by value, so the arrays of labels and queue are locals that its
+// methods are lent: in it they would be copied at each dart.
 #[derive(Clone, Copy)]
 struct Labelling {
     given: usize,
 }
 
-fn wide(x: u16) -> usize
-    ensures { result ≡ x }
-{
-    x as usize
-}
-
 impl Labelling {
     // A dart is met: it gets the next label where it has none. 0 is no dart.
-    fn meet(self, labels: &mut [u16; 1020], queue: &mut [u16; 1020], e: usize) -> Labelling
+    fn meet(self, labels: &mut [u16; 1020], queue: &mut [u16; 1020], e: u16) -> Labelling
         requires { Meets labels.old queue.old self.given e }
         ensures { Holds labels.new queue.new result.given (visit (take self.given queue.old) e) }
     {
         if e == 0 {
             return self;
         }
-        if wide(labels[e - 1]) != 0 {
+        let at = usize::from(e) - 1;
+        if labels[at] != 0 {
             return self;
         }
         let given = self.given;
-        labels[e - 1] = (given + 1) as u16;
-        queue[given] = e as u16;
+        // `as` and no `try_from`: there are at most 1,020 labels, so nothing else is to be answered.
+        labels[at] = (given + 1) as u16;
+        queue[given] = e;
         Labelling { given: given + 1 }
     }
 
     // A dart is served: it meets β0, β1, .. βn of itself.
     fn serve(
         self,
-        n: usize,
-        m: usize,
-        table: &[u16],
-        back: &[u16; 1020],
+        map: SewnTable<'_>,
         labels: &mut [u16; 1020],
         queue: &mut [u16; 1020],
-        d: usize,
+        d: u16,
     ) -> Labelling
-        requires { Serves (lent n m table.now) back.now d labels.old queue.old self.given }
-        ensures { Served (lent n m table.now) d (take self.given queue.old) labels.new queue.new result.given }
+        requires { Serves (given map.table) d labels.old queue.old self.given }
+        ensures { Holds labels.new queue.new result.given (serve (map_of (given map.entry.table)) (take self.given queue.old) d) }
     {
-        let mut labelling = self.meet(labels, queue, wide(back[d - 1]));
-        let row = (d - 1) * n;
-        let mut i = 0;
-        while i < n {
-            labelling = labelling.meet(labels, queue, wide(table[row + i]));
-            i += 1;
+        let mut labelling = self.meet(labels, queue, map.before(d));
+        for e in map.row(d) {
+            labelling = labelling.meet(labels, queue, *e);
         }
         labelling
     }
 }
 
-// The labelling from dart 1, run to its end.
-fn reach(
-    n: usize,
-    m: usize,
-    table: &[u16],
-    back: &[u16; 1020],
-    labels: &mut [u16; 1020],
-    queue: &mut [u16; 1020],
-)
-    requires { Starts (lent n m table.now) back.now labels.old queue.old }
-    ensures { Reaches (lent n m table.now) labels.new queue.new }
-{
-    labels[0] = 1;
-    queue[0] = 1;
-    let mut labelling = Labelling { given: 1 };
-    let mut k = 0;
-    while k < labelling.given {
-        let served = wide(queue[k]);
-        labelling = labelling.serve(n, m, table, back, labels, queue, served);
-        k += 1;
+impl<'a> SewnTable<'a> {
+    // β0 of a dart.
+    fn before(self, d: u16) -> u16
+        requires { IsDart (map_of (given self.table)) d }
+        ensures { result ≡ sew (map_of (given self.entry.table)) 0 d }
+    {
+        self.back[usize::from(d) - 1]
     }
-}
 
-// The least dart that has no label, or 0.
-fn not_labelled(m: usize, labels: &[u16; 1020]) -> usize
-    requires { m ≤ 1020 }
-    ensures { result ≡ not_labelled m labels.now }
-{
-    let mut d = 1;
-    while d <= m {
-        if wide(labels[d - 1]) == 0 {
-            return d;
+    // β1, .. βn of a dart: its row of the table.
+    fn row(self, d: u16) -> &'a [u16]
+        requires { IsDart (map_of (given self.table)) d }
+        ensures { IsRow (given self.entry.table) d result.now }
+    {
+        let start = (usize::from(d) - 1) * self.table.n;
+        &self.table.numbers[start..start + self.table.n]
+    }
+
+    // The labelling from dart 1, run to its end.
+    fn reach(self, labels: &mut [u16; 1020])
+        requires { labels.old ≡ replicate 1020 0 }
+        ensures { Labels labels.new (labelling (map_of (given self.entry.table)) 1) }
+    {
+        let mut queue = [0; 1020];
+        let mut labelling = Labelling { given: 0 }.meet(labels, &mut queue, 1);
+        // No `for`: the queue grows while its darts are served.
+        let mut k = 0;
+        while k < labelling.given {
+            let d = queue[k];
+            labelling = labelling.serve(self, labels, &mut queue, d);
+            k += 1;
         }
-        d += 1;
     }
-    0
-}
 
-// The labels of the first m darts are cleared: no other dart can have one.
-fn clear(labels: &mut [u16; 1020], m: usize)
-    requires { Clears labels.old m }
-    ensures { labels.new ≡ replicate 1020 0 }
-{
-    let mut i = 0;
-    while i < m {
-        labels[i] = 0;
-        i += 1;
+    // The least dart that dart 1 does not reach. No dart has a label before, and none afterwards.
+    fn not_reached(self, labels: &mut [u16; 1020]) -> Option<usize>
+        requires { labels.old ≡ replicate 1020 0 }
+        ensures least { result ≡ found_at (not_reached (map_of (given self.entry.table))) }
+        ensures blank { labels.new ≡ replicate 1020 0 }
+    {
+        self.reach(labels);
+        let dart = not_labelled(&labels[..self.table.m]);
+        *labels = [0; 1020];
+        dart
     }
 }
 
-// The least dart that dart 1 does not reach, or 0. No dart has a label before, and none afterwards.
-fn not_reached(
-    n: usize,
-    m: usize,
-    table: &[u16],
-    back: &[u16; 1020],
-    labels: &mut [u16; 1020],
-) -> usize
-    requires { Sewn (lent n m table.now) back.now × (labels.old ≡ replicate 1020 0) }
-    ensures { (result ≡ not_reached (map_of (lent n m table.now))) × (labels.new ≡ replicate 1020 0) }
+// The least dart that has no label.
+fn not_labelled(labels: &[u16]) -> Option<usize>
+    ensures { result ≡ found_at (not_labelled labels.now) }
 {
-    let mut queue = [0u16; 1020];
-    reach(n, m, table, back, labels, &mut queue);
-    let place = not_labelled(m, labels);
-    clear(labels, m);
-    place
+    for (i, label) in labels.iter().enumerate() {
+        if *label == 0 {
+            return Some(i + 1);
+        }
+    }
+    None
 }
 
 // Rules 1 to 9, in order, for whatever a caller hands in. The lent array `back` then holds β0 of each dart, at index d - 1,
 // where the map is accepted, and zeros where the table is refused; `labels` is room to work in, and holds zeros afterwards.
+#[tactic(auto, using(crate::proofs::Judging::nine))]
 pub fn judge(
-    n: usize,
-    m: usize,
-    table: &[u16],
+    table: Table<'_>,
     output: Output,
     back: &mut [u16; 1020],
     labels: &mut [u16; 1020],
-) -> Judged
-    ensures { Judges output (lent n m table.now) result back.new labels.new }
+) -> Result<(), Refusal>
+    ensures { Judges output (given table.entry) result back.new labels.new }
 {
     *labels = [0; 1020];
-    let judged = maps::judge(n, m, table, output, back);
-    let Judged::Passed = judged else {
-        return judged;
-    };
-    let place = not_reached(n, m, table, back, labels);
-    if place == 0 {
-        return Judged::Passed;
+    maps::judge(table, output, back)?;
+    let sewn = SewnTable { table, back };
+    match sewn.not_reached(labels) {
+        None => Ok(()),
+        Some(dart) => {
+            *back = [0; 1020];
+            Err(Refusal::NotReached(dart))
+        }
     }
-    *back = [0; 1020];
-    Judged::Refused { number: 9, place }
 }
 
 // The plain check of a dart table.
-pub fn check(n: usize, m: usize, table: &[u16]) -> Judged
-    ensures { result ≡ judged_of (check_answer (lent n m table.now)) }
+#[tactic(auto, unfolding(crate::specs::Judging::check_answer))]
+pub fn check(table: Table<'_>) -> Result<(), Refusal>
+    ensures { verdict_of result ≡ check_answer (given table.entry) }
 {
-    let mut back = [0u16; 1020];
-    let mut labels = [0u16; 1020];
-    judge(n, m, table, Output::Nothing, &mut back, &mut labels)
+    let mut back = [0; 1020];
+    let mut labels = [0; 1020];
+    judge(table, Output::Nothing, &mut back, &mut labels)
 }

@@ -6,7 +6,7 @@
 use Rattle.std.specs.Prelude.{ℕ, zero, suc, ◌+◌, ◌*◌, ◌<◌, ◌≡◌, List, [], ◌++◌, length, drop}
 use Rattle.drawer.specs.Drawer.{record_at}
 use Rattle.lister.specs.Listing.{line_from, listing}
-use Rattle.layouts.specs.declared.Progress.{Progress}
+use Rattle.layouts.specs.declared.progress.Progress.{Progress}
 use Rattle.layouts.specs.Reading.{all_read}
 
 -- each record as it is complete

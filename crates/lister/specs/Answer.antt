@@ -2,7 +2,7 @@
 --     PrintedAs     a line at the end of its array, and zeros before it
 -- Assumes nothing.
 use Rattle.std.specs.Prelude.{ℕ, ◌+◌, ◌≡◌, List, ◌++◌, length, replicate}
-use Rattle.lister.specs.declared.Line.{Line}
+use Rattle.lister.specs.declared.line.Line.{Line}
 
 -- the answer r is the line l
 pub record PrintedAs (l : List ℕ) (r : Line) : Type 0 where

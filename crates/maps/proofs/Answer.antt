@@ -1,21 +1,22 @@
--- The laws of `specs/Answer.antt`: what `judge` answers, and β0 found dart by dart.
+-- The laws of `specs/Answer.antt` and `specs/Shown.antt`: what `judge` answers, and β0 found dart by dart.
+--     refusal_only, verdict_only          a refusal, an answer, is told by what it shows
+--     refusal_low, refusal_high, refusal_refuses
+--                                         a refusal shows a number from 1 to 9
+--     ok_accepts, err_refuses             an answer is `Ok` exactly when its verdict accepts
 --     as_refused, as_passed               an answer that has its verdict
 --     as_same                             judges that agree on a table have the same answers
---     passed_accepts, refused-accepts     an answer is `Passed` exactly when its verdict accepts
---     refused_is, refused_low             a refusal has the number and place of its verdict, and a number from 1
---     judged_passed, judged_refused       the answer that stands for a verdict
 --     judged_only                         no second answer fits
---     verdict_of-judged_of                an answer's number and place are its verdict's
 --     Backs M k held                      at each dart stands the least of the first k darts that β1 takes there, or 0
 --     backs_start                         before any dart is passed, nothing
 --     backs_unsewn, backs_given           an unsewn dart changes nothing, a sewn one is written where nothing stands
 --     backs_whole                         once all are passed, β0 of every dart
 --     clash_sewn, clash_unsewn            rule 6 at a dart, by what stands in the array
+--     Sewing, sewing_..                   β0 found so far, and rule 6 kept so far
 --     backs_sew                           β0 of a dart, read off the array
 -- Assumes nothing.
-use Prim.Native.Nat.{ℕ, suc, ◌-◌, ◌≤◌}
+use Prim.Native.Nat.{ℕ, suc, ◌+◌, ◌-◌, ◌*◌, ◌≤◌}
 use mathlib.Core.Path.{◌≡◌, refl, sym, ap, ◌∙◌}
-use mathlib.Core.Bool.{true, false}
+use mathlib.Core.Bool.{true, false, cond}
 use mathlib.Core.List.{List, map}
 use native.Mathlib.Omega.{arith}
 use borrow.Author.Tests.{eq-eqb, ne_eqb, eqb-true, eqb-false, lt-ltb}
@@ -24,94 +25,121 @@ use lib.ListN.{length, get_or, set, replicate, length-set, length-map, length-re
 use lib.Seq.{get_or-set_same, get_or-set_other, ext_get_or}
 use Rattle.maps.specs.Least.{nth, up_to, least, some}
 use Rattle.maps.specs.Map.{Map, IsDart, back, sew}
-use Rattle.maps.specs.Given.{Given, map_of}
+use Rattle.maps.specs.Given.{Given, map_of, place_of}
 use Rattle.maps.specs.Verdict.{Verdict, accepted, refused, accepts}
-use Rattle.maps.specs.Rules.{given_before}
-use Rattle.maps.specs.Answer.{verdict_of, judged_of, backs_of, JudgedAs}
-use Rattle.maps.specs.declared.Judged.{Judged}
-use Rattle.maps.specs.declared.Judged.TheVariants.{Passed, Refused}
-use Rattle.maps.proofs.Least.{least_hit, least_miss, least_kept, sought, Sought, nowhere, somewhere, Tested, passes, fails, tested, some_cong, length-up_to, nth-map-up_to, nth-suc}
+use Rattle.maps.specs.Rules.{given_before, judge_entries}
+use Rattle.std.specs.Prelude.{Result, Ok, Err, None, Some}
+use Rattle.maps.specs.Shown.{shown_refusal, verdict_of}
+use Rattle.maps.specs.Answer.{backs_of, JudgedAs}
+use Rattle.maps.specs.Inside.{EntriesJudged, BackAs}
+use Rattle.std.specs.Result.{is_err}
+use Rattle.maps.specs.declared.Refusal.{Refusal}
+use Rattle.maps.specs.declared.Refusal.TheVariants.{Dimension, Size, Length, Room, Exceeds, GivenBefore, Unanswered, Parted, NotReached}
+use Rattle.maps.proofs.Least.{true_not_false, Passed, passed_start, passed_turn, found_some, found_none, least_hit, least_miss, least_kept, sought, Sought, nowhere, somewhere, Tested, passes, fails, tested, some_cong, length-up_to, nth-map-up_to, nth-suc}
+use Rattle.maps.proofs.Rules.{clash_entry, clash_none}
 use Rattle.maps.proofs.Map.{takes, sew_beta, sew_back}
-use Rattle.maps.proofs.Verdict.{refused_refuses}
 
-module _ {judge : Given → Verdict} {g : Given} {r : Judged} {held : List ℕ} where
-  pub as_refused : (k p : ℕ) → 1 ≤ k → judge g ≡ refused k p → r ≡ Refused k p → held ≡ replicate 1020 0 → JudgedAs judge g r held
-  unfolding judged_of refused
-  as_refused k p low is answer zeros =
-      let refuses : accepts (refused k p) ≡ false = refused_refuses k p low in
-      record { verdict = answer ∙ rw is (simp refuses); backs = zeros ∙ rw is (simp refuses) }
+-- what a verdict shows is told apart by its number
+unfoldable refusal_at : ℕ → ℕ → Refusal
+refusal_at k p =
+    cond (eqb k 1) Dimension
+    (cond (eqb k 2) Size
+    (cond (eqb k 3) Length
+    (cond (eqb k 4) Room
+    (cond (eqb k 5) (Exceeds p)
+    (cond (eqb k 6) (GivenBefore p)
+    (cond (eqb k 7) (Unanswered p)
+    (cond (eqb k 8) (Parted p)
+    (NotReached p))))))))
 
-  pub as_passed : judge g ≡ accepted → r ≡ Passed → held ≡ backs_of (map_of g) → JudgedAs judge g r held
-  unfolding judged_of accepted accepts
-  as_passed is answer whole = record { verdict = answer ∙ rw is refl; backs = whole ∙ rw is refl }
+refusal_back : (r : Refusal) → refusal_at (shown_refusal r).number (shown_refusal r).place ≡ r
+unfolding refused refusal_at
+refusal_back Dimension = refl
+refusal_back Size = refl
+refusal_back Length = refl
+refusal_back Room = refl
+refusal_back (Exceeds p) = refl
+refusal_back (GivenBefore p) = refl
+refusal_back (Unanswered p) = refl
+refusal_back (Parted p) = refl
+refusal_back (NotReached p) = refl
+
+-- two refusals that show one number at one place are one
+pub refusal_only : (r s : Refusal) → shown_refusal r ≡ shown_refusal s → r ≡ s
+refusal_only r s same = sym (refusal_back r) ∙ ap (λ (v : Verdict). refusal_at v.number v.place) same ∙ refusal_back s
+
+-- a refusal shows a number from 1 to 9
+pub refusal_low : (r : Refusal) → 1 ≤ (shown_refusal r).number
+unfolding refused
+refusal_low Dimension = omega arith
+refusal_low Size = omega arith
+refusal_low Length = omega arith
+refusal_low Room = omega arith
+refusal_low (Exceeds p) = omega arith
+refusal_low (GivenBefore p) = omega arith
+refusal_low (Unanswered p) = omega arith
+refusal_low (Parted p) = omega arith
+refusal_low (NotReached p) = omega arith
+
+pub refusal_high : (r : Refusal) → (shown_refusal r).number ≤ 9
+unfolding refused
+refusal_high Dimension = omega arith
+refusal_high Size = omega arith
+refusal_high Length = omega arith
+refusal_high Room = omega arith
+refusal_high (Exceeds p) = omega arith
+refusal_high (GivenBefore p) = omega arith
+refusal_high (Unanswered p) = omega arith
+refusal_high (Parted p) = omega arith
+refusal_high (NotReached p) = omega arith
+
+pub refusal_refuses : (r : Refusal) → accepts (shown_refusal r) ≡ false
+unfolding accepts
+refusal_refuses r = let low = refusal_low r in ne_eqb _ 0 (λ z. omega arith)
+
+-- a verdict that an answer shows accepts exactly where the answer is `Ok`
+pub ok_accepts : {v : Verdict} (u : Unit) → verdict_of (Ok u) ≡ v → accepts v ≡ true
+unfolding accepts accepted
+ok_accepts u is = rw (← is) refl
+
+pub err_refuses : {v : Verdict} (r : Refusal) → verdict_of (Err r) ≡ v → accepts v ≡ false
+err_refuses r is = rw (← is) (refusal_refuses r)
+
+-- two answers that show one verdict are one
+pub verdict_only : (r s : Result Unit Refusal) → verdict_of r ≡ verdict_of s → r ≡ s
+unfolding accepted
+verdict_only (Ok a) (Ok b) same = refl
+verdict_only (Ok a) (Err s) same = let number : 0 ≡ (shown_refusal s).number = ap (λ (v : Verdict). v.number) same in absurd (omega (arith, refusal_low s))
+verdict_only (Err r) (Ok b) same = let number : (shown_refusal r).number ≡ 0 = ap (λ (v : Verdict). v.number) same in absurd (omega (arith, refusal_low r))
+verdict_only (Err r) (Err s) same = ap Err (refusal_only r s same)
+
+-- a judge's answer on a table that it refuses, and on one that it accepts
+module _ {judge : Given → Verdict} {g : Given} {held : List ℕ} where
+  pub as_refused : (r : Refusal) → judge g ≡ shown_refusal r → held ≡ replicate 1020 0 → JudgedAs judge g (Err r) held
+  as_refused r is zeros = record { verdict = sym is; backs = zeros ∙ rw is (simp (refusal_refuses r)) }
+
+  pub as_passed : (u : Unit) → judge g ≡ accepted → held ≡ backs_of (map_of g) → JudgedAs judge g (Ok u) held
+  unfolding accepted accepts
+  as_passed u is whole = record { verdict = sym is; backs = whole ∙ rw is refl }
+
+-- once 1 to 4 pass, the entries' answer is the judge's
+module _ {judge : Given → Verdict} {g g' : Given} where
+  pub entries_refused : (r : Result Unit Refusal) (back : List ℕ) → is_err r ≡ true → (g' ≡ g) × (judge g ≡ judge_entries (map_of g)) → EntriesJudged (map_of g') r back → JudgedAs judge g r (replicate 1020 0)
+  entries_refused (Ok u) back e same judged = absurd (true_not_false e refl)
+  entries_refused (Err r) back e same judged = as_refused r (same.1 ∙ ap (λ (h : Given). judge_entries (map_of h)) (sym same.0) ∙ judged) refl
+
+  pub entries_passed : (r : Result Unit Refusal) (back : List ℕ) → is_err r ≡ false → (g' ≡ g) × (judge g ≡ judge_entries (map_of g)) → EntriesJudged (map_of g') r back → JudgedAs judge g r back
+  entries_passed (Ok u) back e same judged =
+      as_passed u (same.1 ∙ ap (λ (h : Given). judge_entries (map_of h)) (sym same.0) ∙ judged.0) (judged.1 ∙ ap (λ (h : Given). backs_of (map_of h)) same.0)
+  entries_passed (Err r) back e same judged = absurd (true_not_false refl e)
 
 -- judges that agree on a table have the same answers
-pub as_same : {judge other : Given → Verdict} {g : Given} {r : Judged} {held : List ℕ} → judge g ≡ other g → JudgedAs other g r held → JudgedAs judge g r held
+pub as_same : {judge other : Given → Verdict} {g : Given} {r : Result Unit Refusal} {held : List ℕ} → judge g ≡ other g → JudgedAs other g r held → JudgedAs judge g r held
 as_same is answer = record { verdict = rw is answer.verdict; backs = rw is answer.backs }
 
--- an answer is `Passed` exactly when its verdict accepts
-pub passed_accepts : (v : Verdict) → Passed ≡ judged_of v → accepts v ≡ true
-unfolding judged_of
-passed_accepts v is = at (tested (accepts v))
-  where
-    at : Tested (accepts v) → accepts v ≡ true
-    at (passes e) = e
-    at (fails e) =
-        let other : Passed ≡ Refused v.number v.place = simp e at is in
-        let z : ◌≡◌ {A = ℕ} 0 1 = cc in
-        absurd (omega arith)
-
-pub refused-accepts : (v : Verdict) (k p : ℕ) → Refused k p ≡ judged_of v → accepts v ≡ false
-unfolding judged_of
-refused-accepts v k p is = at (tested (accepts v))
-  where
-    at : Tested (accepts v) → accepts v ≡ false
-    at (fails e) = e
-    at (passes e) =
-        let other : Refused k p ≡ Passed = simp e at is in
-        let z : ◌≡◌ {A = ℕ} 0 1 = cc in
-        absurd (omega arith)
-
--- a refusal has the number and place of its verdict
-pub refused_is : (v : Verdict) (k p : ℕ) → Refused k p ≡ judged_of v → v ≡ refused k p
-unfolding judged_of refused
-refused_is v k p is =
-    let same : Refused k p ≡ Refused v.number v.place = simp (refused-accepts v k p is) at is in
-    let number : v.number ≡ k = cc in
-    let place : v.place ≡ p = cc in
-    λ i. record { number = number i; place = place i }
-
--- a refusal's number is at least 1
-pub refused_low : (v : Verdict) (k p : ℕ) → Refused k p ≡ judged_of v → 1 ≤ k
-unfolding accepts refused
-refused_low v k p is =
-    let some = eqb-false v.number 0 (refused-accepts v k p is) in
-    let number : v.number ≡ k = ap (λ (w : Verdict). w.number) (refused_is v k p is) in
-    omega arith
-
--- the answer that stands for a verdict
-pub judged_passed : {v : Verdict} → v ≡ accepted → Passed ≡ judged_of v
-unfolding judged_of accepts accepted
-judged_passed is = rw is refl
-
-pub judged_refused : {v : Verdict} (k p : ℕ) → 1 ≤ k → v ≡ refused k p → Refused k p ≡ judged_of v
-unfolding judged_of refused
-judged_refused k p low is = let refuses : accepts (refused k p) ≡ false = refused_refuses k p low in rw is (simp refuses)
-
 -- no second answer fits, nor a second array
-pub judged_only : (judge : Given → Verdict) (g : Given) (r s : Judged) (held kept : List ℕ) → JudgedAs judge g r held → JudgedAs judge g s kept → (r ≡ s) × (held ≡ kept)
-judged_only judge g r s held kept a b = (a.verdict ∙ sym b.verdict, a.backs ∙ sym b.backs)
-
--- an answer's number and place are those of the verdict that it stands for, where an accepting one has place 0
-pub verdict_of-judged_of : (v : Verdict) → (v.number ≡ 0 → v.place ≡ 0) → verdict_of (judged_of v) ≡ v
-unfolding verdict_of judged_of accepted refused accepts
-verdict_of-judged_of v clean = at (tested (eqb v.number 0))
-  where
-    at : Tested (eqb v.number 0) → verdict_of (judged_of v) ≡ v
-    at (passes e) =
-        let none : v.number ≡ 0 = eqb-true v.number 0 e in
-        simp e (λ i. record { number = sym none i; place = sym (clean none) i })
-    at (fails e) = simp e
+pub judged_only : (judge : Given → Verdict) (g : Given) (r s : Result Unit Refusal) (held kept : List ℕ) → JudgedAs judge g r held → JudgedAs judge g s kept → (r ≡ s) × (held ≡ kept)
+judged_only judge g r s held kept a b = (verdict_only r s (a.verdict ∙ sym b.verdict), a.backs ∙ sym b.backs)
 
 -- at each dart stands the least of the first k darts that β1 takes there, or 0
 pub record Backs (M : Map) (k : ℕ) (held : List ℕ) : Type 0 where
@@ -192,6 +220,69 @@ backs_whole M held b =
   where
     long : length (map (back M) (up_to 1020)) ≡ 1020
     long = length-map (up_to 1020) (back M) ∙ length-up_to 1020
+
+-- β0 found of what the darts below d lead to, and rule 6 kept so far
+pub record Sewing (M : Map) (d : ℕ) (back : List ℕ) : Type 0 where
+  pub low : 1 ≤ d
+  pub backs : Backs M (d - 1) back
+  pub so_far : Passed (λ e. given_before M e 1) d
+
+pub sewing_start : (M : Map) {back : List ℕ} → back ≡ replicate 1020 0 → Sewing M 1 back
+sewing_start M zeros = record { low = omega arith; backs = rw zeros (backs_start M); so_far = passed_start _ }
+
+module _ {M : Map} {d : ℕ} {back : List ℕ} (s : Sewing M d back) (dim : 1 ≤ M.dim) where
+  module _ (inside : d ≤ M.darts) where
+    one_less : suc (d - 1) ≡ d
+    one_less = omega (arith, s.low)
+
+    dart : IsDart M (suc (d - 1))
+    dart = (omega arith, omega (arith, s.low))
+
+    module _ {x : ℕ} (is : x ≡ sew M 1 d) where
+      there : x ≡ sew M 1 (suc (d - 1))
+      there = is ∙ ap (sew M 1) (sym one_less)
+
+      clash-here : 1 ≤ x → x ≤ 1020 → given_before M d 1 ≡ ltb 0 (get_or back (x - 1) 0)
+      clash-here low high = ap (λ (c : ℕ). given_before M c 1) (sym one_less) ∙ clash_sewn s.backs dart dim x there low high
+
+      -- the next dart leads where an earlier one does
+      pub sewing_clash : (x ≡ 0 → ⊥) → x ≤ 1020 → (get_or back (x - 1) 0 ≡ 0 → ⊥) → BackAs M (Some ((d - 1) * M.dim + 1)) back
+      unfolding place_of
+      sewing_clash some high stands =
+          let clash : given_before M d 1 ≡ true = clash-here (omega arith) high ∙ lt-ltb 0 (get_or back (x - 1) 0) (omega arith) in
+          record {
+            wrong = found_some (omega arith) (clash_entry M dim d s.so_far s.low inside clash);
+            whole = λ none. absurd (let z : ◌≡◌ {A = ℕ} 0 1 = cc in omega arith);
+          }
+
+      -- or where none does
+      pub sewing_given : (x ≡ 0 → ⊥) → x ≤ 1020 → get_or back (x - 1) 0 ≡ 0 → Sewing M (d + 1) (set back (x - 1) d)
+      sewing_given some high free =
+          let low : 1 ≤ x = omega arith in
+          let more : suc (d - 1) ≡ d + 1 - 1 = omega (arith, s.low) in
+          let value : set back (x - 1) (suc (d - 1)) ≡ set back (x - 1) d = ap (set back (x - 1)) one_less in
+          record {
+            low = omega arith;
+            backs = rw (← more, ← value) (backs_given s.backs dart dim x there low high free);
+            so_far = passed_turn _ s.so_far (clash-here low high ∙ ap (ltb 0) free);
+          }
+
+      -- or nowhere
+      pub sewing_unsewn : x ≡ 0 → Sewing M (d + 1) back
+      sewing_unsewn none =
+          let more : suc (d - 1) ≡ d + 1 - 1 = omega (arith, s.low) in
+          let unsewn : sew M 1 (suc (d - 1)) ≡ 0 = sym there ∙ none in
+          record {
+            low = omega arith;
+            backs = rw (← more) (backs_unsewn s.backs dart dim unsewn);
+            so_far = passed_turn _ s.so_far (ap (λ (c : ℕ). given_before M c 1) (sym one_less) ∙ clash_unsewn s.backs dart dim unsewn);
+          }
+
+  -- all darts are passed
+  pub sewing_over : d ≡ M.darts + 1 → BackAs M None back
+  sewing_over past =
+      let all : d - 1 ≡ M.darts = omega arith in
+      record { wrong = found_none (clash_none M dim d s.so_far (omega arith)); whole = λ none. backs_whole M back (rw all at s.backs) }
 
 -- β0 of a dart, read off the array
 pub backs_sew : (M : Map) (d : ℕ) → IsDart M d → d ≤ 1020 → get_or (backs_of M) (d - 1) 0 ≡ sew M 0 d

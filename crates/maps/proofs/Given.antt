@@ -1,6 +1,7 @@
 -- The laws of `specs/Given.antt`: where an entry of a dart table lies, and that the map is read there.
 --     in_table       the place of an entry is inside the table
 --     table_sew      βi(d) is read at index (d − 1)·n + (i − 1)
+--     sewn_inside    what a dart is sewn to has a place in an array of 1,020
 --     in_row, row_sew     the same along a row, the sewing counted from 0
 -- Assumes nothing.
 use Prim.Native.Nat.{ℕ, suc, ◌+◌, ◌-◌, ◌*◌, ◌≤◌, ◌<◌}
@@ -12,7 +13,9 @@ use Rattle.maps.specs.Least.{nth}
 use Rattle.maps.specs.Map.{IsDart, sew}
 use Rattle.maps.specs.Given.{Given, place_of, map_of, Shaped}
 use Rattle.maps.proofs.Least.{nth_one_more}
+use Rattle.maps.specs.Accepted.{ToDarts}
 use Rattle.maps.proofs.Map.{sew_beta}
+use Rattle.maps.proofs.Accepted.{darts_most}
 
 module _ {g : Given} (s : Shaped g) where
   pub in_table : (d i : ℕ) → 1 ≤ d → d ≤ g.m → 1 ≤ i → i ≤ g.n → (d - 1) * g.n + (i - 1) < length g.table
@@ -25,6 +28,11 @@ module _ {g : Given} (s : Shaped g) where
   table_sew d i dl dh il ih =
       let e : (d - 1) * g.n + i ≡ (d - 1) * g.n + (i - 1) + 1 = omega arith in
       sew_beta (map_of g) i d (dl, dh) il ih ∙ ap (nth g.table) e ∙ nth_one_more g.table ((d - 1) * g.n + (i - 1))
+
+  -- what a dart is sewn to has a place in an array of 1,020
+  pub sewn_inside : ToDarts (map_of g) → (i d : ℕ) {x : ℕ} → x ≡ sew (map_of g) i d → x ≤ 1020
+  unfolding map_of
+  sewn_inside within i d is = omega (arith, within i d, darts_most s.bounds)
 
   -- the same along a dart's row, the sewing counted from 0
   pub in_row : (d i : ℕ) → IsDart (map_of g) d → i < g.n → (d - 1) * g.n + i < length g.table

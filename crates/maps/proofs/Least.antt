@@ -9,6 +9,9 @@
 --     least_is                    the one that passes while no lower one does
 --     least_cong                  tests that agree have the same least
 --     passed_..                   a search that goes from 1 upwards
+--     found_some, found_none      what a search answers where it finds a number, and where it finds none
+--     some_is, none_is            and what its answer says
+--     search_hit, search_over     the same of a search that goes from 1 upwards, as a loop needs them
 --     count_hit, count_miss       how many pass, at one number more
 --     count_le, count_passed      how many pass: at most k, and at least 1 where one is known to pass
 -- Assumes nothing.
@@ -21,10 +24,11 @@ use lib.Seq.{get_or-append_seam}
 use native.Mathlib.Omega.{arith}
 use native.Mathlib.Nat.{eq-or-lt_of_le, le-suc, le-suc_iff, le_of_suc-le, le_of_suc-le-suc, not-suc-le-zero, le_trans}
 use native.Mathlib.Numerals.{add-one}
-use borrow.Author.Tests.{lt-ltb, le-ltb, ltb-true, ltb-false}
-use lib.Dec.{ltb}
+use borrow.Author.Tests.{lt-ltb, le-ltb, ltb-true, ltb-false, ne_eqb, eqb-true, eqb-false}
+use lib.Dec.{ltb, eqb}
 use lib.ListN.{length, get_or, length-append, length-map, get_or-eq_default, get_or-append}
-use Rattle.maps.specs.Least.{nth, up_to, least, some, count}
+use Rattle.std.specs.Prelude.{Option, None, Some}
+use Rattle.maps.specs.Least.{nth, up_to, least, found_at, some, count}
 
 pub nth-suc : (xs : List ℕ) (p : ℕ) → nth xs (suc p) ≡ get_or xs p 0
 unfolding nth
@@ -198,6 +202,38 @@ module _ (p : ℕ → Bool) {i : ℕ} (so_far : Passed p i) where
 
   pub passed_found : {k : ℕ} → 1 ≤ i → i ≤ k → p i ≡ true → Found p k i
   passed_found low high hit = record { low = low; high = high; hit = hit; before = so_far }
+
+-- what a search answers
+pub found_some : {p q : ℕ} → 1 ≤ p → q ≡ p → Some p ≡ found_at q
+unfolding found_at
+found_some {p} low is = rw is (let e : eqb p 0 ≡ false = ne_eqb p 0 (λ z. omega arith) in simp e)
+
+pub found_none : {q : ℕ} → q ≡ 0 → None ≡ found_at q
+unfolding found_at
+found_none none = rw none refl
+
+pub some_is : {p q : ℕ} → Some p ≡ found_at q → (q ≡ p) × (1 ≤ p)
+unfolding found_at
+some_is {p} {q} is = at (tested (eqb q 0))
+  where
+    at : Tested (eqb q 0) → (q ≡ p) × (1 ≤ p)
+    at (passes e) = let other : Some p ≡ None = simp e at is in absurd (let z : ◌≡◌ {A = ℕ} 0 1 = cc in omega arith)
+    at (fails e) = let other : Some p ≡ Some q = simp e at is in let same : q ≡ p = cc in (same, let some = eqb-false q 0 e in omega arith)
+
+pub none_is : {q : ℕ} → None ≡ found_at q → q ≡ 0
+unfolding found_at
+none_is {q} is = at (tested (eqb q 0))
+  where
+    at : Tested (eqb q 0) → q ≡ 0
+    at (passes e) = eqb-true q 0 e
+    at (fails e) = let other : ◌≡◌ {A = Option ℕ} None (Some q) = simp e at is in absurd (let z : ◌≡◌ {A = ℕ} 0 1 = cc in omega arith)
+
+module _ (p : ℕ → Bool) {i : ℕ} (so_far : Passed p i) where
+  pub search_hit : {k : ℕ} → 1 ≤ i → i ≤ k → p i ≡ true → Some i ≡ found_at (least k p)
+  search_hit {k} low high hit = found_some low (least_is p k (passed_found p so_far low high hit))
+
+  pub search_over : {k : ℕ} → k < i → None ≡ found_at (least k p)
+  search_over {k} past = found_none (none_least p k (passed_misses p so_far past))
 
 -- tests that agree up to k
 abbrev pub Agree : (ℕ → Bool) → (ℕ → Bool) → ℕ → Type 0

@@ -1,5 +1,6 @@
 -- The laws of `specs/Map.antt`: what `sew` is, inside and outside the darts, and how β0 and β1 undo one another.
---     sew_zero, sew_outside, sew_high     nothing is sewn to 0, to what is no dart, or by a sewing above n
+--     sew_zero, sew_outside, sew_none, sew_high
+--                                         nothing is sewn to 0, to what is no dart, or by a sewing above n
 --     sew_beta, sew_back                  inside, `sew` is what is written, and β0 is `back`
 --     sewn_dart                           what is sewn is a dart
 --     back_dart                           β0 leads to a dart or to nothing
@@ -8,6 +9,7 @@
 use Prim.Native.Nat.{ℕ, ◌≤◌, ◌<◌}
 use mathlib.Core.Path.{◌≡◌, refl, sym, ◌∙◌}
 use mathlib.Core.Bool.{Bool, false, cond, ◌&&◌}
+use mathlib.Core.Logic.{◌⊎◌, ⊎_elim}
 use native.Mathlib.Omega.{arith}
 use borrow.Author.Tests.{le-leb, lt-leb, leb-true, leb-false, eq-eqb, ne_eqb, eqb-true, ltb-true, ltb-false}
 use lib.Dec.{leb, eqb, ltb}
@@ -28,6 +30,10 @@ module _ (M : Map) (i d : ℕ) where
       at : Tested (leb 1 d) → cond (leb 1 d && leb d M.darts && leb i M.dim) (cond (eqb i 0) (back M d) (M.beta i d)) 0 ≡ 0
       at (passes e) = simp (e, lt-leb d M.darts h)
       at (fails e) = simp e
+
+  -- d is no dart
+  pub sew_none : (d ≡ 0) ⊎ (M.darts < d) → sew M i d ≡ 0
+  sew_none none = ⊎_elim (λ zero. rw zero sew_zero) sew_outside none
 
   pub sew_high : M.dim < i → sew M i d ≡ 0
   unfolding sew

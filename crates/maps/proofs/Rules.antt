@@ -2,40 +2,45 @@
 --     dart_at_place_of, sewing_at_place_of  the dart and the sewing of an entry's place
 --     place_low, place_below               an entry's place, and those of the entries of lower darts
 --     place_says                           the places that break a rule are those of the entries that do
---     low_of_low, spoken                   no rule is broken by a sewing below the least that it speaks of
+--     over_speaks, reverse_speaks, compose_speaks
+--                                          no rule is broken by a sewing below the least that it speaks of
 --     unanswered_.., parted_..             how the tests of 7 and 8 come out, by what the sewings are
 --     clash_entry, clash_none              rule 6, judged dart by dart
 --     Kept, wrong_entry_none               no entry breaks a rule, exactly when it finds no wrong one
 --     wrong_entry_row, wrong_entry_rows    the wrong entry, searched for row by row
+--     entry_found, row_passed, entries_over  the same, as the searches answer
+--     sewing_inside                        the entry found is inside the table
 --     over_none                            what rule 5 leaves
---     Pass, rules_found, rules_none        the entries' verdict, by the wrong entry of each rule in turn
---     shape_low .. shape_passed            numbers 1 to 3, by their tests
+--     Pass, rules_found, rules_some, rules_none
+--                                          the entries' verdict, by the wrong entry of each rule in turn
+--     shape_dimension .. shape_passed, in_shape
+--                                          numbers 1 to 3, by their tests
 --     sewing_shape, sewing_short, sewing_entries
 --                                          numbers 1 to 8
 -- Assumes nothing.
 use Prim.Native.Nat.{ℕ, zero, suc, suc-le-suc, ◌+◌, ◌-◌, ◌*◌, ◌/◌, ◌%◌, ◌≤◌, ◌<◌}
 use mathlib.Core.Path.{◌≡◌, refl, sym, ap, ◌∙◌}
-use mathlib.Core.Bool.{Bool, true, false, not}
+use mathlib.Core.Bool.{Bool, true, false, not, ◌&&◌}
 use mathlib.Core.List.{List, [], ◌∷◌, ◌++◌, map}
 use mathlib.Core.Logic.{◌↔◌, ◌⊎◌, inl, inr, ⊎_elim}
 use native.Mathlib.Omega.{arith}
 use native.Mathlib.Nat.{mul-add-div_right, mul-add-mod_self_right, div-eq_of_lt, mod-eq_of_lt, suc-mul, le_trans, mul-le-mul_right, div-lt_iff_lt-mul, div-mul-le_self, div-add-mod', mod-lt, mul_comm, eq-or-lt_of_le}
-use borrow.Author.Tests.{eq-eqb, ne_eqb, eqb-true, le-leb, lt-leb, lt-ltb, ltb-true, ltb-false}
+use borrow.Author.Tests.{eq-eqb, ne_eqb, eqb-true, leb-true, le-leb, lt-leb, lt-ltb, ltb-true, ltb-false}
 use lib.Dec.{eqb, leb, ltb}
 use lib.ListN.{length}
-use Rattle.maps.specs.Least.{least, some}
+use Rattle.std.specs.Prelude.{None, Some}
+use Rattle.maps.specs.Least.{least, found_at, some}
 use Rattle.maps.specs.Map.{Map, IsDart, sew}
-use Rattle.maps.specs.Given.{Given, place_of, map_of}
+use Rattle.maps.specs.Given.{Given, place_of, map_of, Shaped}
 use Rattle.maps.specs.Verdict.{accepted, refused, accepts, unless, in_order}
 use Rattle.maps.specs.Accepted.{ToDarts}
 use Rattle.maps.specs.Lines.{Entry}
-use Rattle.maps.specs.Rules.{judge_dimension, judge_size, judge_length, judge_shape, judge_output, Rule, exceeds, given_before, unanswered, parted, composes_wrong, over_rule, clash_rule, dart_at, sewing_at, wrong_entry, shown_place, judged_by, judge_entries, judge_sewing}
-use Rattle.maps.specs.Inside.{rule_of, low_of}
-use Rattle.maps.specs.declared.Law.{Law}
-use Rattle.maps.specs.declared.Law.TheVariants.{Bounded, Reversed, Composed}
+use Rattle.maps.specs.Rules.{judge_dimension, judge_size, judge_length, judge_shape, judge_output, Rule, exceeds, given_before, unanswered, parted, composes_wrong, over_rule, clash_rule, reverse_rule, compose_rule, dart_at, sewing_at, wrong_entry, shown_place, judged_by, judge_entries, judge_sewing}
+use Rattle.maps.specs.Inside.{SpeaksFrom, wrong_sewing}
 use Rattle.maps.specs.declared.Output.{Output}
 use Rattle.maps.specs.declared.Output.TheVariants.{Nothing, Word, Images}
-use Rattle.maps.proofs.Least.{Tested, passes, fails, tested, true_not_false, Misses, Found, Passed, least_none, none_least, least_is, some_misses}
+use Rattle.maps.proofs.Least.{Tested, passes, fails, tested, true_not_false, Misses, Found, Passed, passed_turn, passed_misses, least_none, least_found, none_least, least_is, some_misses, misses_some, found_some, found_none, some_is, none_is}
+use Rattle.maps.proofs.Given.{in_table}
 use Rattle.maps.proofs.Map.{back_dart, sewn_dart, sewn_low}
 use Rattle.maps.proofs.Verdict.{in_order_passed, in_order_first, in_order-accepts, in_order_one, unless_refused, unless-accepts}
 
@@ -128,18 +133,20 @@ module _ (M : Map) (d i : ℕ) where
       let sewn : ltb 0 e ≡ true = lt-ltb 0 e (omega arith) in
       simp (le-leb 2 i h, ← there, sewn, ← back)
 
-pub low_of_low : (law : Law) → 1 ≤ low_of law
-unfolding low_of
-low_of_low Bounded = omega arith
-low_of_low Reversed = omega arith
-low_of_low Composed = omega arith
+-- no rule is broken by a sewing below the least that it speaks of: 5 speaks of every one, 7 of β2 and up, and 8 of βj with j at
+-- least 3, since i runs to j − 2
+pub over_speaks : SpeaksFrom over_rule 1
+over_speaks = record { some = omega arith; below = λ M d i low below. absurd (omega arith) }
 
--- no rule is broken by a sewing below the least that it speaks of
-pub spoken : (law : Law) (M : Map) (d : ℕ) → Passed (λ i. (rule_of law).broken M d i) (low_of law)
-unfolding rule_of low_of composes_wrong some least
-spoken Bounded M d i low below = absurd (omega arith)
-spoken Reversed M d i low below = sym (unanswered_first M d i below)
-spoken Composed M d i low below = let none : i - 2 ≡ 0 = omega arith in rw none refl
+pub reverse_speaks : SpeaksFrom reverse_rule 2
+reverse_speaks = record { some = omega arith; below = λ M d i low below. sym (unanswered_first M d i below) }
+
+composes_first : (M : Map) (d i : ℕ) → i < 3 → composes_wrong M d i ≡ false
+unfolding composes_wrong some least
+composes_first M d i below = let none : i - 2 ≡ 0 = omega arith in rw none refl
+
+pub compose_speaks : SpeaksFrom compose_rule 3
+compose_speaks = record { some = omega arith; below = λ M d i low below. composes_first M d i below }
 
 module _ (M : Map) (i j d x e : ℕ) (first : x ≡ sew M j d) (second : e ≡ sew M i x) where
   pub parted_unsewn : e ≡ 0 → false ≡ parted M i j d
@@ -264,6 +271,30 @@ module _ (M : Map) (r : Rule) (dim : 1 ≤ M.dim) where
       at p (inl lower) = some_misses _ _ (so_far (dart_at M.dim p) (dart_at_low M.dim p) lower) (sewing_at M.dim p) (sewing_at_low M.dim p) (sewing_at_high M.dim p dim)
       at p (inr (same, less)) = rw (at_place, same) (f.before (sewing_at M.dim p) (sewing_at_low M.dim p) less)
 
+-- the same of one row and of rule 6, as the searches answer them
+module _ (M : Map) (r : Rule) (dim : 1 ≤ M.dim) (d : ℕ) (so_far : Passed (at_dart M r) d) where
+  pub entry_found : (i : ℕ) → IsDart M d → Some i ≡ found_at (wrong_sewing M r d) → Some (place_of M.dim d i) ≡ found_at (wrong_entry M r)
+  unfolding wrong_sewing
+  entry_found i dart is =
+      let here = some_is is in
+      let f : Found (λ j. r.broken M d j) M.dim i = rw (← here.0) (least_found _ _ (omega arith)) in
+      found_some (place_low M.dim d i f.low) (wrong_entry_row M r dim d i dart so_far f)
+
+  pub row_passed : None ≡ found_at (wrong_sewing M r d) → Passed (at_dart M r) (d + 1)
+  unfolding wrong_sewing
+  row_passed none = passed_turn (at_dart M r) so_far (misses_some _ _ (least_none _ _ (none_is none)))
+
+  pub entries_over : M.darts < d → None ≡ found_at (wrong_entry M r)
+  entries_over past = found_none (wrong_entry_rows M r dim (passed_misses _ so_far past))
+
+-- the entry found is inside the table
+pub sewing_inside : {g : Given} → Shaped g → (r : Rule) (d i : ℕ) → 1 ≤ d → d ≤ g.m → Some i ≡ found_at (wrong_sewing (map_of g) r d) → (d - 1) * g.n + i ≤ 1020
+unfolding wrong_sewing map_of
+sewing_inside {g} s r d i low high is =
+    let here = some_is is in
+    let f : Found (λ j. r.broken (map_of g) d j) g.n i = rw (← here.0) (least_found _ _ (omega arith)) in
+    omega (arith, in_table s d i low high f.low f.high, s.long, s.bounds.table_most)
+
 -- what rule 5 leaves: every βi leads to a dart or to nothing
 pub over_none : (M : Map) → 1 ≤ M.dim → wrong_entry M over_rule ≡ 0 → ToDarts M
 unfolding exceeds
@@ -289,45 +320,55 @@ module _ {M : Map} where
       in_order_first (judged_by M r) (map (judged_by M) ss) r.number p low (simp (ne_eqb (wrong_entry M r) 0 (λ z. wrong (is ∙ z)), is))
   rules_found (past none rest) r ss p low is wrong = simp none (rules_found rest r ss p low is wrong)
 
+  -- the same, as its search answers it
+  pub rules_some : {rs : List Rule} → Pass M rs → (r : Rule) (ss : List Rule) {p : ℕ} → 1 ≤ r.number → Some p ≡ found_at (wrong_entry M r) → in_order (map (judged_by M) (rs ++ (r ∷ ss))) ≡ refused r.number p
+  rules_some passed r ss {p} low is = let here = some_is is in rules_found passed r ss p low (sym here.0) (λ z. omega arith)
+
   -- none does
   pub rules_none : {rs : List Rule} → Pass M rs → in_order (map (judged_by M) rs) ≡ accepted
   unfolding judged_by accepts accepted unless in_order
   rules_none done = refl
   rules_none (past none rest) = simp none (rules_none rest)
 
--- 1 to 3 of a table, by the tests that lead there
+and_split : (a b : Bool) → (a && b) ≡ true → (a ≡ true) × (b ≡ true)
+and_split true true h = (refl, refl)
+and_split true false h = absurd (true_not_false h refl)
+and_split false b h = absurd (true_not_false h refl)
+
+-- 1 to 3 of a table, by their tests
 module _ (g : Given) where
-  pub shape_low : g.n < 1 → judge_shape g ≡ refused 1 0
-  unfolding judge_shape judge_dimension unless in_order accepts refused
-  shape_low h = simp (lt-leb 1 g.n h)
+  abbrev pub dimension_fits : Bool
+  dimension_fits = leb 1 g.n && leb g.n 4
 
-  pub shape_high : 4 < g.n → judge_shape g ≡ refused 1 0
-  unfolding judge_shape judge_dimension unless in_order accepts refused
-  shape_high h = simp (le-leb 1 g.n (omega arith), lt-leb g.n 4 h)
+  abbrev pub size_fits : Bool
+  size_fits = leb 1 g.m && leb (g.n * g.m) 1020
 
-  module _ (low : 1 ≤ g.n) (high : g.n ≤ 4) where
-    pub shape_none : g.m < 1 → judge_shape g ≡ refused 2 0
+  pub shape_dimension : dimension_fits ≡ false → judge_shape g ≡ refused 1 0
+  unfolding judge_shape judge_dimension unless in_order accepts refused
+  shape_dimension h = simp h
+
+  module _ (n-fits : dimension_fits ≡ true) where
+    pub shape_size : size_fits ≡ false → judge_shape g ≡ refused 2 0
     unfolding judge_shape judge_dimension judge_size unless in_order accepts accepted refused
-    shape_none h = simp (le-leb 1 g.n low, le-leb g.n 4 high, lt-leb 1 g.m h)
+    shape_size h = simp (n-fits, h)
 
-    module _ (some : 1 ≤ g.m) where
-      pub shape_most : 1020 < g.n * g.m → judge_shape g ≡ refused 2 0
-      unfolding judge_shape judge_dimension judge_size unless in_order accepts accepted refused
-      shape_most h = simp (le-leb 1 g.n low, le-leb g.n 4 high, le-leb 1 g.m some, lt-leb (g.n * g.m) 1020 h)
+    module _ (m-fits : size_fits ≡ true) where
+      pub shape_long : (length g.table ≡ g.n * g.m → ⊥) → judge_shape g ≡ refused 3 0
+      unfolding judge_shape judge_dimension judge_size judge_length unless in_order accepts accepted refused
+      shape_long h = simp (n-fits, m-fits, ne_eqb (length g.table) (g.n * g.m) h)
 
-      pub shape_many : 1020 < g.m → judge_shape g ≡ refused 2 0
-      shape_many h = shape_most (omega (arith, mul-le-mul_right g.m low))
+      pub shape_passed : length g.table ≡ g.n * g.m → judge_shape g ≡ accepted
+      unfolding judge_shape judge_dimension judge_size judge_length unless in_order accepts accepted
+      shape_passed h = simp (n-fits, m-fits, eq-eqb (length g.table) (g.n * g.m) h)
 
-      module _ (most : g.n * g.m ≤ 1020) where
-        pub shape_long : (length g.table ≡ g.n * g.m → ⊥) → judge_shape g ≡ refused 3 0
-        unfolding judge_shape judge_dimension judge_size judge_length unless in_order accepts accepted refused
-        shape_long h =
-            simp (le-leb 1 g.n low, le-leb g.n 4 high, le-leb 1 g.m some, le-leb (g.n * g.m) 1020 most, ne_eqb (length g.table) (g.n * g.m) h)
-
-        pub shape_passed : length g.table ≡ g.n * g.m → judge_shape g ≡ accepted
-        unfolding judge_shape judge_dimension judge_size judge_length unless in_order accepts accepted
-        shape_passed h =
-            simp (le-leb 1 g.n low, le-leb g.n 4 high, le-leb 1 g.m some, le-leb (g.n * g.m) 1020 most, eq-eqb (length g.table) (g.n * g.m) h)
+      pub in_shape : length g.table ≡ g.n * g.m → Shaped g
+      in_shape h =
+          let n = and_split (leb 1 g.n) (leb g.n 4) n-fits in
+          let m = and_split (leb 1 g.m) (leb (g.n * g.m) 1020) m-fits in
+          record {
+            bounds = record { dim_least = leb-true 1 g.n n.0; dim_most = leb-true g.n 4 n.1; darts_least = leb-true 1 g.m m.0; table_most = leb-true (g.n * g.m) 1020 m.1 };
+            long = h;
+          }
 
 -- an output that is refused is refused with 4
 output_refused : (o : Output) (n m : ℕ) → accepts (judge_output o n m) ≡ false → judge_output o n m ≡ refused 4 0

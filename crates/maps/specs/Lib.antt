@@ -9,5 +9,6 @@ pub mod Verdict
 pub mod Lines
 pub mod Rules
 pub mod Base
+pub mod Shown
 pub mod Answer
 pub mod Inside

@@ -1,19 +1,86 @@
 // What a map is: a dart table judged by rules 1 to 8, and β0 of each dart.
 #![tactic(auto)]
 
-ghost use Rattle.std.specs.Prelude.{◌≡◌, ◌≤◌, replicate};
+ghost use Rattle.std.specs.Prelude.{ℕ, ◌≡◌, ◌≤◌, ◌*◌, ◌&&◌, leb, replicate};
+ghost use Rattle.maps.specs.Least.{found_at};
 ghost use Rattle.maps.specs.Map.{sew};
-ghost use Rattle.maps.specs.Given.{lent, map_of, Shaped};
-ghost use Rattle.maps.specs.Verdict.{accepts};
-ghost use Rattle.maps.specs.Rules.{unanswered, parted, composes_wrong, wrong_entry, judge_output, judge_entries, judge_sewing};
+ghost use Rattle.maps.specs.Given.{map_of};
+ghost use Rattle.maps.specs.Shown.{given, shown_refusal};
+ghost use Rattle.maps.specs.Verdict.{Verdict, accepts};
+ghost use Rattle.maps.specs.Rules as judging;
+ghost use Rattle.maps.specs.Rules.{parted, wrong_entry, over_rule, reverse_rule, compose_rule, judge_output, judge_sewing};
 ghost use Rattle.maps.specs.Answer.{JudgedAs};
-ghost use Rattle.maps.specs.Inside.{InTable, Blank, BackAs, rule_of, low_of, wrong_sewing};
+ghost use Rattle.maps.specs.Inside.{IsSewing, Blank, BackAs, SpeaksFrom, ShapeJudged, EntriesJudged, wrong_sewing};
 
-// A verdict: passed, or refused with the display's number and place.
+mod shape;
+
+use shape::InShape;
+
+// A dart table as a caller lends it: a dimension, a dart count and numbers, of which nothing is known.
 #[derive(Clone, Copy)]
-pub enum Judged {
-    Passed,
-    Refused { number: u32, place: usize },
+pub struct Table<'a> {
+    pub n: usize,
+    pub m: usize,
+    pub numbers: &'a [u16],
+}
+
+impl Table<'_> {
+    // 1: n is 1 to 4.
+    fn has_dimension(self) -> bool
+        ensures { result ≡ (leb 1 self.entry.n && leb self.entry.n 4) }
+    {
+        1 <= self.n && self.n <= 4
+    }
+
+    // 2: m is at least 1, and n·m at most 1,020.
+    fn has_size(self) -> bool
+        requires { (1 ≤ self.n) × (self.n ≤ 4) }
+        ensures { result ≡ (leb 1 self.entry.m && leb (self.entry.n * self.entry.m) 1020) }
+    {
+        1 <= self.m && self.m <= 1020 && self.n * self.m <= 1020
+    }
+}
+
+// Why one dart table is refused, by the rules 1 to 9, and where: 5 to 8 at the entry's place in the table, 9 at the dart.
+#[derive(Clone, Copy, Debug, PartialEq, Eq)]
+pub enum Refusal {
+    Dimension,
+    Size,
+    Length,
+    Room,
+    Exceeds(usize),
+    GivenBefore(usize),
+    Unanswered(usize),
+    Parted(usize),
+    NotReached(usize),
+}
+
+// What the display shows of a refusal: its number and its place.
+pub trait Shown {
+    ghost shown: { Self → Verdict };
+
+    fn number_and_place(&self) -> (u32, usize)
+        ensures number { result.0 ≡ (shown self.now).number }
+        ensures place { result.1 ≡ (shown self.now).place };
+}
+
+impl Shown for Refusal {
+    ghost shown = { shown_refusal };
+
+    #[tactic(auto, unfolding(crate::specs::Verdict::refused))]
+    fn number_and_place(&self) -> (u32, usize) {
+        match *self {
+            Refusal::Dimension => (1, 0),
+            Refusal::Size => (2, 0),
+            Refusal::Length => (3, 0),
+            Refusal::Room => (4, 0),
+            Refusal::Exceeds(entry) => (5, entry),
+            Refusal::GivenBefore(entry) => (6, entry),
+            Refusal::Unanswered(entry) => (7, entry),
+            Refusal::Parted(entry) => (8, entry),
+            Refusal::NotReached(dart) => (9, dart),
+        }
+    }
 }
 
 // The output that a call is lent beside its table, with its length: none, one for a word, or one for a matching's images.
@@ -24,219 +91,203 @@ pub enum Output {
     Images(usize),
 }
 
-// The rules that are judged entry by entry: 5, 7 and 8.
-#[derive(Clone, Copy)]
-enum Law {
-    Bounded,
-    Reversed,
-    Composed,
-}
-
-fn wide(x: u16) -> usize
-    ensures { result ≡ x }
-{
-    x as usize
-}
-
-// βi(d) for i from 1. Nothing is sewn to what is no dart.
-fn sewn(n: usize, m: usize, table: &[u16], i: usize, d: usize) -> usize
-    requires { InTable (lent n m table.now) i }
-    ensures { result ≡ sew (map_of (lent n m table.now)) i d }
-{
-    if d == 0 {
-        return 0;
-    }
-    if m < d {
-        return 0;
-    }
-    wide(table[(d - 1) * n + (i - 1)])
-}
-
-// Rule 7 at one entry: βi(d) is sewn, and βi does not lead back.
-fn not_answered(n: usize, m: usize, table: &[u16], d: usize, i: usize) -> bool
-    requires { InTable (lent n m table.now) i }
-    ensures { result ≡ unanswered (map_of (lent n m table.now)) d i }
-{
-    if i < 2 {
-        return false;
-    }
-    let e = sewn(n, m, table, i, d);
-    if e == 0 {
-        return false;
-    }
-    sewn(n, m, table, i, e) != d
-}
-
-// The composition of βi and βj, twice, leads from d elsewhere.
-fn parts(n: usize, m: usize, table: &[u16], i: usize, j: usize, d: usize) -> bool
-    requires { InTable (lent n m table.now) i × InTable (lent n m table.now) j }
-    ensures { result ≡ parted (map_of (lent n m table.now)) i j d }
-{
-    let e = sewn(n, m, table, i, sewn(n, m, table, j, d));
-    if e == 0 {
-        return false;
-    }
-    sewn(n, m, table, i, sewn(n, m, table, j, e)) != d
-}
-
-// Rule 8 at one entry: a composition with βj fails at d.
-fn not_composed(n: usize, m: usize, table: &[u16], d: usize, j: usize) -> bool
-    requires { InTable (lent n m table.now) j }
-    ensures { result ≡ composes_wrong (map_of (lent n m table.now)) d j }
-{
-    let mut i = 1;
-    while i + 2 <= j {
-        if parts(n, m, table, i, j, d) {
-            return true;
+impl Output {
+    // The output is long enough for what the call writes.
+    #[tactic(auto, unfolding(crate::specs::Rules::judge_output, crate::specs::Verdict::unless, crate::specs::Verdict::accepts, crate::specs::Verdict::accepted, crate::specs::Verdict::refused))]
+    fn has_room(self, n: usize, m: usize) -> bool
+        requires { n * m ≤ 1020 }
+        ensures { result ≡ accepts (judge_output self n m) }
+    {
+        match self {
+            Output::Nothing => true,
+            Output::Word(room) => n * m <= room,
+            Output::Images(room) => m <= room,
         }
-        i += 1;
-    }
-    false
-}
-
-// One rule at one entry.
-fn breaks(law: Law, n: usize, m: usize, table: &[u16], d: usize, i: usize) -> bool
-    requires { InTable (lent n m table.now) i }
-    ensures { result ≡ (rule_of law).broken (map_of (lent n m table.now)) d i }
-{
-    match law {
-        Law::Bounded => m < sewn(n, m, table, i, d),
-        Law::Reversed => not_answered(n, m, table, d, i),
-        Law::Composed => not_composed(n, m, table, d, i),
     }
 }
 
-// The least sewing that a rule speaks of.
-fn least_sewing(law: Law) -> usize
-    ensures { result ≡ low_of law }
-{
-    match law {
-        Law::Bounded => 1,
-        Law::Reversed => 2,
-        Law::Composed => 3,
-    }
-}
-
-// The least sewing of d that breaks a rule, or 0.
-fn wrong_sewing(law: Law, n: usize, m: usize, table: &[u16], d: usize) -> usize
-    requires { Shaped (lent n m table.now) }
-    ensures { result ≡ wrong_sewing (map_of (lent n m table.now)) (rule_of law) d }
-{
-    let mut i = least_sewing(law);
-    while i <= n {
-        if breaks(law, n, m, table, d, i) {
-            return i;
+impl InShape<'_> {
+    // βi(d) for i from 1. Nothing is sewn to what is no dart.
+    fn sewn(self, i: usize, d: usize) -> usize
+        requires { IsSewing (given self.table) i }
+        ensures { result ≡ sew (map_of (given self.entry.table)) i d }
+    {
+        if d == 0 || self.table.m < d {
+            return 0;
         }
-        i += 1;
+        usize::from(self.table.numbers[(d - 1) * self.table.n + (i - 1)])
     }
-    0
-}
 
-// The place of the least entry that breaks a rule, or 0.
-fn wrong_entry(law: Law, n: usize, m: usize, table: &[u16]) -> usize
-    requires { Shaped (lent n m table.now) }
-    ensures { result ≡ wrong_entry (map_of (lent n m table.now)) (rule_of law) }
-{
-    let mut d = 1;
-    while d <= m {
-        let i = wrong_sewing(law, n, m, table, d);
-        if i != 0 {
-            return (d - 1) * n + i;
-        }
-        d += 1;
+    // The composition of βi and βj, twice, leads from d elsewhere.
+    fn parts(self, i: usize, j: usize, d: usize) -> bool
+        requires { IsSewing (given self.table) i × IsSewing (given self.table) j }
+        ensures { result ≡ parted (map_of (given self.entry.table)) i j d }
+    {
+        let e = self.sewn(i, self.sewn(j, d));
+        e != 0 && self.sewn(i, self.sewn(j, e)) != d
     }
-    0
-}
 
-// Finds β0 of each dart, and with it the least entry that breaks rule 6, or 0: a dart that β1 gave before has its β0 already.
-fn sew_back(n: usize, m: usize, table: &[u16], back: &mut [u16; 1020]) -> usize
-    requires { Blank (lent n m table.now) back.old }
-    ensures { BackAs (map_of (lent n m table.now)) result back.new }
-{
-    let mut d = 1;
-    while d <= m {
-        let e = sewn(n, m, table, 1, d);
-        if e != 0 {
-            if back[e - 1] != 0 {
-                return (d - 1) * n + 1;
+    // The least sewing of d that breaks a rule.
+    fn wrong_sewing<R: Rule>(self, d: usize) -> Option<usize>
+        ensures { result ≡ found_at (wrong_sewing (map_of (given self.entry.table)) R.rule d) }
+    {
+        for i in R::least_sewing()..=self.table.n {
+            if R::breaks(self, d, i) {
+                return Some(i);
             }
-            back[e - 1] = d as u16;
         }
-        d += 1;
+        None
     }
-    0
+
+    // The place of the least entry that breaks a rule.
+    fn wrong_entry<R: Rule>(self) -> Option<usize>
+        ensures { result ≡ found_at (wrong_entry (map_of (given self.entry.table)) R.rule) }
+    {
+        for d in 1..=self.table.m {
+            if let Some(i) = self.wrong_sewing::<R>(d) {
+                return Some((d - 1) * self.table.n + i);
+            }
+        }
+        None
+    }
+
+    // Finds β0 of each dart, and with it the least entry that breaks rule 6: a dart that β1 gave before has its β0 already.
+    fn sew_back(self, back: &mut [u16; 1020]) -> Option<usize>
+        requires { Blank (given self.table) back.old }
+        ensures { BackAs (map_of (given self.entry.table)) result back.new }
+    {
+        for d in 1..=self.table.m {
+            let e = self.sewn(1, d);
+            if e != 0 {
+                if back[e - 1] != 0 {
+                    return Some((d - 1) * self.table.n + 1);
+                }
+                back[e - 1] = d as u16;
+            }
+        }
+        None
+    }
+
+    // Rules 5 to 8. The array holds zeros before, and afterwards β0 of each dart where they pass.
+    fn judge_entries(self, back: &mut [u16; 1020]) -> Result<(), Refusal>
+        requires { back.old ≡ replicate 1020 0 }
+        ensures { EntriesJudged (map_of (given self.entry.table)) result back.new }
+    {
+        if let Some(entry) = self.wrong_entry::<Bounded>() {
+            return Err(Refusal::Exceeds(entry));
+        }
+        if let Some(entry) = self.sew_back(back) {
+            return Err(Refusal::GivenBefore(entry));
+        }
+        if let Some(entry) = self.wrong_entry::<Reversed>() {
+            return Err(Refusal::Unanswered(entry));
+        }
+        if let Some(entry) = self.wrong_entry::<Composed>() {
+            return Err(Refusal::Parted(entry));
+        }
+        Ok(())
+    }
 }
 
-// A refusal leaves zeros in the array of β0.
-fn refuse(number: u32, place: usize, back: &mut [u16; 1020]) -> Judged
-    ensures { (result ≡ Judged.Refused number place) × (back.new ≡ replicate 1020 0) }
-{
-    *back = [0; 1020];
-    Judged::Refused { number, place }
+// A rule that is judged entry by entry, from the least sewing that it speaks of: 5, 7 and 8 are such.
+trait Rule {
+    ghost rule: { judging.Rule };
+
+    // No lower sewing breaks the rule.
+    fn least_sewing() -> usize
+        ensures { SpeaksFrom rule result };
+
+    fn breaks(shape: InShape<'_>, d: usize, i: usize) -> bool
+        requires { IsSewing (given shape.table) i }
+        ensures { result ≡ rule.broken (map_of (given shape.entry.table)) d i };
 }
 
-// Rules 5 to 8 of a table that has passed 1 to 4.
-fn judge_entries(n: usize, m: usize, table: &[u16], back: &mut [u16; 1020]) -> Judged
-    requires { Shaped (lent n m table.now) }
-    ensures { JudgedAs (λ g. judge_entries (map_of g)) (lent n m table.now) result back.new }
-{
-    let over = wrong_entry(Law::Bounded, n, m, table);
-    if over != 0 {
-        return refuse(5, over, back);
+// 5: an entry is no more than the count of darts.
+struct Bounded;
+
+impl Rule for Bounded {
+    ghost rule = { over_rule };
+
+    #[tactic(auto, using(crate::proofs::Rules::over_speaks))]
+    fn least_sewing() -> usize {
+        1
     }
-    *back = [0; 1020];
-    let given = sew_back(n, m, table, back);
-    if given != 0 {
-        return refuse(6, given, back);
+
+    fn breaks(shape: InShape<'_>, d: usize, i: usize) -> bool {
+        shape.table.m < shape.sewn(i, d)
     }
-    let parted = wrong_entry(Law::Reversed, n, m, table);
-    if parted != 0 {
-        return refuse(7, parted, back);
-    }
-    let twisted = wrong_entry(Law::Composed, n, m, table);
-    if twisted != 0 {
-        return refuse(8, twisted, back);
-    }
-    Judged::Passed
 }
 
-// The output is long enough for what the call writes.
-fn has_room(output: Output, n: usize, m: usize) -> bool
-    requires { (n ≤ 4) × (m ≤ 1020) }
-    ensures { result ≡ accepts (judge_output output n m) }
-{
-    match output {
-        Output::Nothing => true,
-        Output::Word(room) => n * m <= room,
-        Output::Images(room) => m <= room,
+// 7: where βi(d) is sewn, βi leads back.
+struct Reversed;
+
+impl Rule for Reversed {
+    ghost rule = { reverse_rule };
+
+    #[tactic(auto, using(crate::proofs::Rules::reverse_speaks))]
+    fn least_sewing() -> usize {
+        2
     }
+
+    fn breaks(shape: InShape<'_>, d: usize, i: usize) -> bool {
+        if i < 2 {
+            return false;
+        }
+        let e = shape.sewn(i, d);
+        e != 0 && shape.sewn(i, e) != d
+    }
+}
+
+// 8: no composition of βj with a lesser sewing parts.
+struct Composed;
+
+impl Rule for Composed {
+    ghost rule = { compose_rule };
+
+    #[tactic(auto, using(crate::proofs::Rules::compose_speaks))]
+    fn least_sewing() -> usize {
+        3
+    }
+
+    fn breaks(shape: InShape<'_>, d: usize, j: usize) -> bool {
+        for i in 1..j - 1 {
+            if shape.parts(i, j, d) {
+                return true;
+            }
+        }
+        false
+    }
+}
+
+// Rules 1 to 4: the table's shape, and the room in the output.
+fn judge_shape<'a>(table: Table<'a>, output: Output) -> Result<InShape<'a>, Refusal>
+    ensures { ShapeJudged output table.entry result }
+{
+    if !table.has_dimension() {
+        return Err(Refusal::Dimension);
+    }
+    if !table.has_size() {
+        return Err(Refusal::Size);
+    }
+    if table.numbers.len() != table.n * table.m {
+        return Err(Refusal::Length);
+    }
+    if !output.has_room(table.n, table.m) {
+        return Err(Refusal::Room);
+    }
+    Ok(InShape { table })
 }
 
 // Rules 1 to 8, in order, for whatever a caller hands in. The lent array then holds β0 of each dart, at index d - 1, where the
 // table passed, and zeros where it is refused.
-pub fn judge(n: usize, m: usize, table: &[u16], output: Output, back: &mut [u16; 1020]) -> Judged
-    ensures { JudgedAs (judge_sewing output) (lent n m table.now) result back.new }
+pub fn judge(table: Table<'_>, output: Output, back: &mut [u16; 1020]) -> Result<(), Refusal>
+    ensures { JudgedAs (judge_sewing output) (given table.entry) result back.new }
 {
-    if n < 1 {
-        return refuse(1, 0, back);
+    *back = [0; 1020];
+    let shaped = judge_shape(table, output)?;
+    let judged = shaped.judge_entries(back);
+    if judged.is_err() {
+        *back = [0; 1020];
     }
-    if 4 < n {
-        return refuse(1, 0, back);
-    }
-    if m < 1 {
-        return refuse(2, 0, back);
-    }
-    if 1020 < m {
-        return refuse(2, 0, back);
-    }
-    if 1020 < n * m {
-        return refuse(2, 0, back);
-    }
-    if table.len() != n * m {
-        return refuse(3, 0, back);
-    }
-    if has_room(output, n, m) {
-        return judge_entries(n, m, table, back);
-    }
-    refuse(4, 0, back)
+    judged
 }

@@ -1,88 +1,113 @@
 -- Laws for the functions inside, and of the definitions in `specs/Inside.antt`.
---     nth_index          what stands at a place from 1 on, by its index
---     bad_zero, bad_over, bad_used
---                        the test of `bad_image`, case by case, and `good_images`, what it leaves
---     Users m f k held   at index e − 1 stands the least of the first k darts whose value in the list f is e, or 0
+--     Users f k used     at index e − 1 stands whether one of the first k darts has the value e in the list f
 --     users_start, users_given
 --                        before any dart is passed, and once one more is
---     parted_read        the test of `parts`, by what is read
---     second_passed, second_refused
---                        the answer on a second table
---     checked            what the plain check leaves of a table
+--     bad_read           the test of `bad_image`, by what is read
+--     good_images        what it leaves: every value is a dart
+--     parts_read         the test of `parts`, by the rows of a dart and of its image
+--     row_within, row_read
+--                        a dart's row in a table
+--     checked            a table that the plain check accepts is in shape
 --     images_long, images_bad, images_parted, images_kept
 --                        `judge_images` by what is found
---     alike_ready        tables that the check accepts, of one n and m, are ready for 11 and 12
---     answer_first, answer_second, answer_unlike_dim, answer_unlike_darts, answer_alike
+--     answer_first, answer_second, answer_unlike, answer_alike
 --                        `judge_answer` by what is found
 -- Assumes nothing.
-use Prim.Native.Nat.{ℕ, suc, ◌+◌, ◌-◌, ◌≤◌, ◌<◌}
-use mathlib.Core.Path.{◌≡◌, sym, ap, subst, ◌∙◌}
-use mathlib.Core.Bool.{true, false, not}
-use mathlib.Core.List.{List, [], ◌∷◌}
-use mathlib.Core.Logic.{inl, inr}
+use Prim.Native.Nat.{ℕ, zero, suc, ◌+◌, ◌-◌, ◌*◌, ◌≤◌, ◌<◌}
+use mathlib.Core.Path.{◌≡◌, refl, sym, ap, ◌∙◌}
+use mathlib.Core.Bool.{Bool, true, false, not, ◌||◌, ◌&&◌, or-true, or-false}
+use mathlib.Core.List.{List}
+use mathlib.Core.Logic.{◌⊎◌, inl, inr}
 use native.Mathlib.Numerals.{add-one}
 use native.Mathlib.Omega.{arith}
-use borrow.Author.Tests.{eq-eqb, ne_eqb, lt-ltb, le-ltb}
+use borrow.Author.Tests.{eq-eqb, ne_eqb, eqb-true, eqb-false, lt-ltb, ltb-false}
 use lib.Dec.{eqb, ltb}
-use lib.ListN.{length, get_or, set, replicate}
-use Rattle.maps.specs.Least.{nth, some}
+use lib.ListN.{length, get_or, set, replicate, length-set, length-replicate, get_or-replicate, take, drop}
+use lib.Seq.{get_or-set_same, get_or-set_other}
+use Rattle.std.specs.Prelude.{Some, None}
+use Rattle.std.specs.List.{list_any, zip}
+use Rattle.std.proofs.Math.Seq.{take-length}
+use Rattle.std.proofs.lemmas.List.{get_or-take, get_or-drop}
+use Rattle.std.proofs.lemmas.List.Folds.{list_any_more}
+use Rattle.std.proofs.lemmas.Slice.Zip.{length-zip, get_or-zip}
+use Rattle.maps.specs.Least.{nth, least, some, found_at}
 use Rattle.maps.specs.Map.{Map, sew}
-use Rattle.maps.specs.Accepted.{Accepted}
-use Rattle.maps.specs.Given.{Given, lent, map_of, Shaped}
-use Rattle.maps.specs.Verdict.{Verdict, accepted, refused, accepts, unless, at_least, in_order, of_second}
-use Rattle.maps.specs.Answer.{judged_of}
-use Rattle.maps.specs.declared.Judged.TheVariants.{Passed, Refused}
-use Rattle.maps.proofs.Least.{nth-suc, true_not_false, least_none}
-use Rattle.maps.proofs.Map.{takes, sew_beta}
-use Rattle.maps.proofs.Verdict.{in_order_passed, in_order_refused, in_order_first, unless_passed, unless_refused, at_least-some}
-use Rattle.maps.proofs.Answer.{Backs, backs_start, backs_given, passed_accepts, refused-accepts, refused_is, judged_passed, judged_refused}
+use Rattle.maps.specs.Given.{Given, map_of, Shaped}
+use Rattle.maps.specs.Verdict.{accepted, refused, accepts, unless, at_least, of_second}
+use Rattle.maps.proofs.Least.{nth-zero, nth_at, Tested, passes, fails, tested, true_not_false, least_kept, least_hit, least_miss, least_none, Sought, nowhere, somewhere, sought, some_is, none_is}
+use Rattle.maps.proofs.Given.{in_row, row_sew}
+use Rattle.maps.proofs.Verdict.{in_order_on, in_order_last, in_order_refused, in_order_first, unless_passed, unless_refused, at_least-some, at_least_none}
 use Rattle.labels.specs.Judging.{check_answer}
-use Rattle.labels.proofs.Judging.{table_clear, table_whole}
+use Rattle.labels.proofs.Judging.{table_clear}
 use Rattle.words.specs.Match.{judge_pair}
-use Rattle.matches.specs.Judge.{bad_image, BadImage, judge_answer}
-use Rattle.matches.specs.Inside.{Alike, not_kept, judge_images}
-use Rattle.matches.proofs.Judge.{bad, bad_says, parted, second_accepts}
+use Rattle.matches.specs.Judge.{bad_image, parts, BadImage, judge_answer}
+use Rattle.matches.specs.Inside.{not_kept, judge_images}
+use Rattle.matches.specs.Shown.{shown_list_refusal}
+use Rattle.matches.specs.declared.ListRefusal.{ListRefusal}
+use Rattle.matches.proofs.Shown.{list_refuses, second_accepted}
+use Rattle.matches.proofs.Judge.{bad, bad_says, parted}
 
--- what stands at a place from 1 on, by its index
-pub nth_index : (xs : List ℕ) (p : ℕ) → 1 ≤ p → nth xs p ≡ get_or xs (p - 1) 0
-nth_index xs p low =
-    let place : p ≡ suc (p - 1) = omega arith in
-    ap (nth xs) place ∙ nth-suc xs (p - 1)
+-- one number more
+some_more : (k : ℕ) (p : ℕ → Bool) → some (suc k) p ≡ (some k p || p (suc k))
+unfolding some
+some_more k p = at (sought p k) (tested (p (suc k)))
+  where
+    at : Sought p k → Tested (p (suc k)) → ltb 0 (least (suc k) p) ≡ (ltb 0 (least k p) || p (suc k))
+    at (nowhere none m) (passes hit) = rw (least_hit p k none hit, none, hit) (lt-ltb 0 (suc k) (omega arith))
+    at (nowhere none m) (fails miss) = rw (least_miss p k none miss, none, miss) refl
+    at (somewhere d is f) t =
+        let there : 0 < least k p = rw is f.low in
+        rw (least_kept p k there, lt-ltb 0 (least k p) there) refl
 
--- a list as a map whose β1 takes each dart to its image: who uses e is then β0 of e
-abbrev list_map : ℕ → List ℕ → Map
-list_map m f = record { dim = 1; darts = m; beta = λ i d. nth f d }
+-- what stands at a place, 0 or another
+pub ruleset read_at = (nth-zero, nth_at)
 
-abbrev pub Users : ℕ → List ℕ → ℕ → List ℕ → Type 0
-Users m f k held = Backs (list_map m f) k held
+-- at index e − 1 stands whether one of the first k darts has the value e
+pub record Users (f : List ℕ) (k : ℕ) (used : List Bool) : Type 0 where
+  pub long : length used ≡ 1020
+  pub stands : (e : ℕ) → 1 ≤ e → e ≤ 1020 → get_or used (e - 1) false ≡ some k (λ d. eqb (nth f d) e)
 
-module _ (m : ℕ) (f : List ℕ) where
-  pub users_start : Users m f 0 (replicate 1020 0)
-  users_start = backs_start (list_map m f)
+pub users_start : (f : List ℕ) → Users f 0 (replicate 1020 false)
+unfolding some least
+users_start f =
+    record {
+      long = length-replicate {A = Bool} 1020 false;
+      stands = λ e low high. get_or-replicate {A = Bool} 1020 (e - 1) false false (omega arith);
+    }
 
-  module _ (d x : ℕ) (is : x ≡ nth f d) where
-    pub bad_zero : x ≡ 0 → bad m f d ≡ true
-    bad_zero none = simp (eq-eqb (nth f d) 0 (sym is ∙ none))
+pub users_given : {f : List ℕ} {k : ℕ} {used : List Bool} → Users f k used → (x : ℕ) → x ≡ nth f (k + 1) → 1 ≤ x → x ≤ 1020
+    → Users f (k + 1) (set used (x - 1) true)
+users_given {f} {k} {used} u x is low high = record { long = length-set used (x - 1) true ∙ u.long; stands = after }
+  where
+    after : (e : ℕ) → 1 ≤ e → e ≤ 1020 → get_or (set used (x - 1) true) (e - 1) false ≡ some (k + 1) (λ d. eqb (nth f d) e)
+    after e elow ehigh = rw (add-one k, some_more) (at (tested (eqb x e)))
+      where
+        here : x ≡ nth f (suc k)
+        here = is ∙ ap (nth f) (add-one k)
 
-    pub bad_over : m < x → bad m f d ≡ true
-    bad_over over = simp (ne_eqb (nth f d) 0 (λ z. omega arith), lt-ltb m (nth f d) (omega arith))
+        at : Tested (eqb x e) → get_or (set used (x - 1) true) (e - 1) false ≡ (some k (λ d. eqb (nth f d) e) || eqb (nth f (suc k)) e)
+        at (passes h) =
+            let same : x ≡ e = eqb-true x e h in
+            rw (← same, ← here) (rw (eq-eqb x x refl) (get_or-set_same used (x - 1) true false (omega (arith, u.long)) ∙ sym (or-true _)))
+        at (fails h) =
+            let other : x ≡ e → ⊥ = eqb-false x e h in
+            rw (← here, h) (get_or-set_other used (x - 1) (e - 1) true false (λ z. other (omega arith)) ∙ u.stands e elow ehigh ∙ sym (or-false _))
 
-    module _ {held : List ℕ} (users : Users m f (d - 1) held) (low : 1 ≤ x) (high : x ≤ m) (few : m ≤ 1020) where
-      -- what is neither 0 nor above m is used before where something stands
-      pub bad_used : bad m f d ≡ ltb 0 (get_or held (x - 1) 0)
-      unfolding some takes
-      bad_used =
-          simp (ne_eqb (nth f d) 0 (λ z. omega arith), le-ltb m (nth f d) (omega arith), ← is)
-          (sym (ap (ltb 0) (users.stands x low (omega arith))))
+-- the test of `bad_image` at a dart, by what is read
+pub bad_read : {f : List ℕ} {k : ℕ} {used : List Bool} → Users f k used → (m x : ℕ) → x ≡ nth f (k + 1) → m ≤ 1020
+    → bad m f (k + 1) ≡ (eqb x 0 || ltb m x || get_or used (x - 1) false)
+bad_read {f} {k} {used} u m x is few = at (tested (eqb x 0)) (tested (ltb m x))
+  where
+    less : k + 1 - 1 ≡ k
+    less = omega arith
 
-      pub users_given : 1 ≤ d → d ≤ m → get_or held (x - 1) 0 ≡ 0 → Users m f (d + 1 - 1) (set held (x - 1) d)
-      users_given one inside free =
-          let same : suc (d - 1) ≡ d = omega arith in
-          let more : d + 1 - 1 ≡ suc (d - 1) = omega arith in
-          let value : d ≡ suc (d - 1) = omega arith in
-          let sewn = sew_beta (list_map m f) 1 (suc (d - 1)) (omega arith, omega arith) (omega arith) (omega arith) in
-          let there = is ∙ ap (nth f) (sym same) ∙ sym sewn in
-          rw (more, ap (set held (x - 1)) value) (backs_given users (omega arith, omega arith) (omega arith) x there low (omega arith) free)
+    read : bad m f (k + 1) ≡ (eqb x 0 || ltb m x || some k (λ e. eqb (nth f e) x))
+    read = rw (less, ← is) refl
+
+    at : Tested (eqb x 0) → Tested (ltb m x) → bad m f (k + 1) ≡ (eqb x 0 || ltb m x || get_or used (x - 1) false)
+    at (passes z) o = read ∙ simp z
+    at (fails z) (passes o) = read ∙ simp (z, o)
+    at (fails z) (fails o) = read ∙ rw (u.stands x (let some = eqb-false x 0 z in omega arith) (omega (arith, ltb-false m x o))) refl
 
 -- where no dart is bad, every value is a dart
 pub good_images : (m : ℕ) (f : List ℕ) → bad_image m f ≡ 0 → (d : ℕ) → 1 ≤ d → d ≤ m → (1 ≤ nth f d) × (nth f d ≤ m)
@@ -93,113 +118,112 @@ good_images m f none d low high =
     let not-over : ¬ (m < nth f d) = λ over. good (inr (inl over)) in
     (omega arith, omega arith)
 
--- the sewing counted from 0: x is the image of βi(d), and y is β'i of the image of d
-pub parted_read : (M M' : Map) (f : List ℕ) (d i e x y : ℕ) → e ≡ sew M (suc i) d → x ≡ nth f e → y ≡ sew M' (suc i) (nth f d) → parted M M' f d (i + 1) ≡ not (eqb x y)
-parted_read M M' f d i e x y there image there' =
-    let one : i + 1 ≡ suc i = add-one i in
-    cc
+-- a test of the items of a list, by their places
+some_list : {X : Type 0} (test : X → Bool) (xs : List X) (d : X) (p : ℕ → Bool) → ((i : ℕ) → i < length xs → test (get_or xs i d) ≡ p (suc i))
+    → list_any test xs ≡ some (length xs) p
+unfolding some least
+some_list {X} test xs d p same = ap (list_any test) (sym (take-length xs)) ∙ so_far (length xs) (omega arith)
+  where
+    so_far : (k : ℕ) → k ≤ length xs → list_any test (take k xs) ≡ some k p
+    so_far zero within = refl
+    so_far (suc k) within =
+        ap (λ (j : ℕ). list_any test (take j xs)) (sym (add-one k))
+        ∙ list_any_more test xs k d within
+        ∙ rw (so_far k (omega arith), same k within) (sym (some_more k p))
 
--- the answer on a second table
-module _ (v : Verdict) where
-  pub second_passed : Passed ≡ judged_of v → Passed ≡ judged_of (of_second v)
-  unfolding of_second
-  second_passed is =
-      let accepting : accepts v ≡ true = passed_accepts v is in
-      judged_passed (simp accepting)
+-- the test of `parts`, by the rows of a dart and of its image
+pub parts_read : (M M' : Map) (f row row2 : List ℕ) (d : ℕ) → length row ≡ M.dim → length row2 ≡ M.dim
+    → ((i : ℕ) → i < M.dim → get_or row i 0 ≡ sew M (i + 1) d)
+    → ((i : ℕ) → i < M.dim → get_or row2 i 0 ≡ sew M' (i + 1) (nth f d))
+    → list_any (λ (p : ℕ × ℕ). not (eqb (nth f p.0) p.1)) (zip row row2) ≡ parts M M' f d
+unfolding parts
+parts_read M M' f row row2 d long long2 sewn sewn2 =
+    some_list (λ (p : ℕ × ℕ). not (eqb (nth f p.0) p.1)) (zip row row2) (0, 0) (parted M M' f d) same ∙ ap (λ (k : ℕ). some k (parted M M' f d)) dim
+  where
+    dim : length (zip row row2) ≡ M.dim
+    dim = omega (arith, length-zip row row2)
 
-  pub second_refused : (k p : ℕ) → Refused k p ≡ judged_of v → Refused (k + 20) p ≡ judged_of (of_second v)
-  unfolding of_second refused
-  second_refused k p is =
-      let refusing : accepts v ≡ false = refused-accepts v k p is in
-      let same : v ≡ refused k p = refused_is v k p is in
-      let number : 20 + v.number ≡ k + 20 = omega (arith, ap (λ (w : Verdict). w.number) same) in
-      let place : v.place ≡ p = ap (λ (w : Verdict). w.place) same in
-      judged_refused (k + 20) p (omega arith) (simp refusing (λ i. record { number = number i; place = place i }))
+    same : (i : ℕ) → i < length (zip row row2) → not (eqb (nth f (get_or (zip row row2) i (0, 0)).0) (get_or (zip row row2) i (0, 0)).1) ≡ parted M M' f d (suc i)
+    same i below =
+        rw (get_or-zip row row2 i (0, 0) (omega (arith, dim)) (omega (arith, dim)), sewn i (omega (arith, dim)), sewn2 i (omega (arith, dim)), add-one i) refl
 
--- what the plain check leaves of a table
-pub checked : (g : Given) → accepts (check_answer g) ≡ true → Shaped g × Accepted (map_of g)
+-- a dart's row lies in the table, and is short; what is read there is what the dart is sewn to
+module _ {g : Given} (s : Shaped g) (d : ℕ) (dart : (1 ≤ d) × (d ≤ g.m)) where
+  pub row_within : ((d - 1) * g.n + g.n ≤ length g.table) × (length g.table ≤ 1020)
+  unfolding map_of
+  row_within =
+      let some_sewing : 1 ≤ g.n = s.bounds.dim_least in
+      let last = in_row s d (g.n - 1) dart (omega arith) in
+      (omega arith, omega (arith, s.long, s.bounds.table_most))
+
+  pub row_read : (i : ℕ) → i < g.n → get_or (take g.n (drop ((d - 1) * g.n) g.table)) i 0 ≡ sew (map_of g) (i + 1) d
+  unfolding map_of
+  row_read i below = get_or-take g.n _ i 0 below ∙ get_or-drop ((d - 1) * g.n) g.table i 0 ∙ row_sew s d i dart below ∙ ap (λ (j : ℕ). sew (map_of g) j d) (sym (add-one i))
+
+-- a table that the plain check accepts is in shape
+pub checked : (g : Given) → accepted ≡ check_answer g → Shaped g
 unfolding check_answer
-checked g e = let left = table_clear _ g (table_whole _ g e) in (left.1, left.2)
-
--- a verdict that passes, and those after it
-then : {v : Verdict} (vs : List Verdict) → v ≡ accepted → in_order (v ∷ vs) ≡ in_order vs
-unfolding accepts accepted
-then vs is = in_order_passed _ vs (ap accepts is)
-
-then_none : {v : Verdict} → v ≡ accepted → in_order (v ∷ []) ≡ accepted
-unfolding in_order
-then_none is = then [] is
+checked g e = (table_clear _ g (sym e)).1
 
 module _ (a b : Given) (f : List ℕ) where
   pub images_long : (length f ≡ a.m → ⊥) → judge_images a b f ≡ refused 11 0
   unfolding judge_images
   images_long other = in_order_first _ _ 11 0 (omega arith) (unless_refused _ 11 0 (ne_eqb (length f) a.m other))
 
-  module _ (long : length f ≡ a.m) (p : ℕ) (first : p ≡ bad_image a.m f) where
+  module _ (long : length f ≡ a.m) where
     long_passed : unless (eqb (length f) a.m) 11 0 ≡ accepted
     long_passed = unless_passed _ 11 0 (eq-eqb (length f) a.m long)
 
-    pub images_bad : (p ≡ 0 → ⊥) → judge_images a b f ≡ refused 11 p
+    pub images_bad : (p : ℕ) → Some p ≡ found_at (bad_image (length f) f) → judge_images a b f ≡ refused 11 p
     unfolding judge_images
-    images_bad some_dart = then _ long_passed ∙ in_order_first _ _ 11 p (omega arith) (rw (← first) (at_least-some 11 p some_dart))
+    images_bad p first =
+        let is = some_is first in
+        in_order_on _ _ long_passed ∙ in_order_first _ _ 11 p (omega arith) (rw (← long, is.0) (at_least-some 11 p (λ z. omega (arith, is.1))))
 
-    module _ (none : p ≡ 0) (q : ℕ) (least-q : q ≡ not_kept a b f) where
+    module _ (none : None ≡ found_at (bad_image (length f) f)) where
       bad_passed : at_least 11 (bad_image a.m f) ≡ accepted
-      unfolding at_least
-      bad_passed = unless_passed _ 11 _ (eq-eqb (bad_image a.m f) 0 (sym first ∙ none))
+      bad_passed = at_least_none 11 _ (rw (← long) (none_is none))
 
-      pub images_parted : (q ≡ 0 → ⊥) → judge_images a b f ≡ refused 12 q
+      pub images_parted : (q : ℕ) → Some q ≡ found_at (not_kept a b f) → judge_images a b f ≡ refused 12 q
       unfolding judge_images
-      images_parted some_dart =
-          then _ long_passed ∙ then _ bad_passed ∙ in_order_first _ _ 12 q (omega arith) (rw (← least-q) (at_least-some 12 q some_dart))
+      images_parted q first =
+          let is = some_is first in
+          in_order_on _ _ long_passed
+          ∙ in_order_on _ _ bad_passed
+          ∙ in_order_first _ _ 12 q (omega arith) (rw is.0 (at_least-some 12 q (λ z. omega (arith, is.1))))
 
-      pub images_kept : q ≡ 0 → judge_images a b f ≡ accepted
-      unfolding judge_images at_least
+      pub images_kept : None ≡ found_at (not_kept a b f) → judge_images a b f ≡ accepted
+      unfolding judge_images
       images_kept all =
-          then _ long_passed ∙ then _ bad_passed ∙ then_none (unless_passed _ 12 _ (eq-eqb (not_kept a b f) 0 (sym least-q ∙ all)))
-
--- a second table of the same n and m, lent with the first's
-module _ (a b : Given) (same_dim : a.n ≡ b.n) (same_darts : a.m ≡ b.m) where
-  relent : b ≡ lent a.n a.m b.table
-  relent i = lent (sym same_dim i) (sym same_darts i) b.table
-
-  -- tables that the check accepts are ready for 11 and 12
-  pub alike_ready : accepts (check_answer a) ≡ true → accepts (of_second (check_answer b)) ≡ true → Alike a (lent a.n a.m b.table)
-  alike_ready first second =
-      let left = checked a first in
-      record {
-        first = left.0;
-        second = subst (λ (g : Given). Shaped g) relent (checked b (second_accepts (check_answer b) second)).0;
-        within = left.1.open_map.to_darts;
-      }
+          in_order_on _ _ long_passed ∙ in_order_on _ _ bad_passed ∙ in_order_last _ (at_least_none 12 _ (none_is all))
 
 module _ (a b : Given) (f : List ℕ) where
-  pub answer_first : accepts (check_answer a) ≡ false → judge_answer a b f ≡ check_answer a
+  pub answer_first : (r : ListRefusal) → shown_list_refusal r ≡ check_answer a → shown_list_refusal r ≡ judge_answer a b f
   unfolding judge_answer
-  answer_first e = in_order_refused _ _ e
+  answer_first r is = is ∙ sym (in_order_refused _ _ (ap accepts (sym is) ∙ list_refuses r))
 
-  module _ (first : accepts (check_answer a) ≡ true) where
-    pub answer_second : accepts (of_second (check_answer b)) ≡ false → judge_answer a b f ≡ of_second (check_answer b)
+  module _ (first : accepted ≡ check_answer a) where
+    pub answer_second : (r : ListRefusal) → shown_list_refusal r ≡ of_second (check_answer b) → shown_list_refusal r ≡ judge_answer a b f
     unfolding judge_answer
-    answer_second e = in_order_passed _ _ first ∙ in_order_refused _ _ e
+    answer_second r is = is ∙ sym (in_order_on _ _ (sym first) ∙ in_order_refused _ _ (ap accepts (sym is) ∙ list_refuses r))
 
-    module _ (second : accepts (of_second (check_answer b)) ≡ true) where
-      pub answer_unlike_dim : (a.n ≡ b.n → ⊥) → judge_answer a b f ≡ refused 10 0
+    module _ (second : accepted ≡ check_answer b) where
+      second_passed : of_second (check_answer b) ≡ accepted
+      second_passed = ap of_second (sym second) ∙ second_accepted
+
+      pub answer_unlike : (a.n ≡ b.n → ⊥) ⊎ ((a.n ≡ b.n) × (a.m ≡ b.m → ⊥)) → refused 10 0 ≡ judge_answer a b f
       unfolding judge_answer judge_pair
-      answer_unlike_dim other =
-          in_order_passed _ _ first ∙ in_order_passed _ _ second ∙ in_order_first _ _ 10 0 (omega arith) (unless_refused _ 10 0 (simp (ne_eqb a.n b.n other)))
+      answer_unlike other =
+          sym (in_order_on _ _ (sym first) ∙ in_order_on _ _ second_passed ∙ in_order_first _ _ 10 0 (omega arith) (unless_refused _ 10 0 (at other)))
+        where
+          at : (a.n ≡ b.n → ⊥) ⊎ ((a.n ≡ b.n) × (a.m ≡ b.m → ⊥)) → (eqb a.n b.n && eqb a.m b.m) ≡ false
+          at (inl n) = simp (ne_eqb a.n b.n n)
+          at (inr (same, m)) = simp (eq-eqb a.n b.n same, ne_eqb a.m b.m m)
 
-      pub answer_unlike_darts : a.n ≡ b.n → (a.m ≡ b.m → ⊥) → judge_answer a b f ≡ refused 10 0
-      unfolding judge_answer judge_pair
-      answer_unlike_darts same other =
-          in_order_passed _ _ first
-          ∙ in_order_passed _ _ second
-          ∙ in_order_first _ _ 10 0 (omega arith) (unless_refused _ 10 0 (simp (eq-eqb a.n b.n same, ne_eqb a.m b.m other)))
-
-      pub answer_alike : a.n ≡ b.n → a.m ≡ b.m → judge_answer a b f ≡ judge_images a (lent a.n a.m b.table) f
+      pub answer_alike : a.n ≡ b.n → a.m ≡ b.m → judge_images a b f ≡ judge_answer a b f
       unfolding judge_answer judge_pair judge_images not_kept
       answer_alike same_dim same_darts =
-          in_order_passed _ _ first
-          ∙ in_order_passed _ _ second
-          ∙ then _ (unless_passed _ 10 0 (simp (eq-eqb a.n b.n same_dim, eq-eqb a.m b.m same_darts)))
-          ∙ ap (λ (g : Given). judge_images a g f) (relent a b same_dim same_darts)
+          sym
+          (in_order_on _ _ (sym first)
+          ∙ in_order_on _ _ second_passed
+          ∙ in_order_on _ _ (unless_passed _ 10 0 (simp (eq-eqb a.n b.n same_dim, eq-eqb a.m b.m same_darts))))

@@ -5,15 +5,14 @@
 --     shows_zero-least      one line, judged by a test for place 0 and then by the least place
 --     image_line, kept_line  the lines 11 and 12
 --     judge_shows           the answer is what its lines show
---     second_accepts        a second table's verdict accepts where the table's own does
 --     silent_matching       where 10, 11 and 12 hold of no place, the list is a matching
 --     judge_clear, clear_judge
 --                           it accepts exactly a matching of two maps that the check accepts
 --     judge_list_only       no second answer fits
 -- Assumes nothing.
-use Prim.Native.Nat.{ℕ, ◌+◌, ◌-◌, ◌≤◌, ◌<◌}
+use Prim.Native.Nat.{ℕ, ◌-◌, ◌≤◌, ◌<◌}
 use mathlib.Core.Path.{◌≡◌, refl, sym, ap, ◌∙◌}
-use mathlib.Core.Bool.{Bool, true, false, not, ◌&&◌, ◌||◌}
+use mathlib.Core.Bool.{Bool, true, false, not, ◌&&◌, ◌||◌, or-true}
 use mathlib.Core.List.{List, [], ◌∷◌, ◌++◌}
 use mathlib.Core.Logic.{◌↔◌, ◌⊎◌, inl, inr}
 use mathlib.Core.HLevel.{dec→stable}
@@ -22,14 +21,13 @@ use native.Mathlib.Decide.{ℕ_discrete}
 use borrow.Author.Tests.{eq-eqb, ne_eqb, eqb-true, eqb-false, lt-ltb, ltb-true, leb-true, leb-false, not-true}
 use lib.Dec.{eqb, leb, ltb}
 use lib.ListN.{length}
+use Rattle.std.specs.Prelude.{Result}
 use Rattle.maps.specs.Least.{nth, least, some}
 use Rattle.maps.specs.Map.{Map, IsDart, sew}
 use Rattle.maps.specs.Given.{Given, map_of}
 use Rattle.maps.specs.Matching.{Matching}
-use Rattle.maps.specs.Verdict.{Verdict, accepted, refused, accepts, unless, at_least, in_order, of_second}
+use Rattle.maps.specs.Verdict.{Verdict, accepted, accepts, unless, at_least, in_order, of_second}
 use Rattle.maps.specs.Lines.{Line, Silent, Shows, here, plain, raised, check_lines}
-use Rattle.maps.specs.Answer.{judged_of}
-use Rattle.maps.specs.declared.Judged.{Judged}
 use Rattle.maps.proofs.Least.{nth-zero, Tested, passes, fails, tested, true_not_false, Found, some_found, passes_some}
 use Rattle.maps.proofs.Map.{sew_high}
 use Rattle.maps.proofs.Verdict.{in_order_passed, in_order_first, unless_passed, unless_refused}
@@ -39,7 +37,11 @@ use Rattle.labels.specs.Theorems.{CheckShows}
 use Rattle.labels.proofs.Judging.{table_whole}
 use Rattle.labels.proofs.Theorems.{check_shows}
 use Rattle.words.specs.Match.{judge_pair, Unlike}
+use Rattle.words.proofs.Match.{of_second-accepts}
 use Rattle.matches.specs.Judge.{bad_image, parts, judge_answer, BadImage, NotKept, judge_lines}
+use Rattle.matches.specs.Shown.{list_verdict_of}
+use Rattle.matches.specs.declared.ListRefusal.{ListRefusal}
+use Rattle.matches.proofs.Shown.{list_shown_only}
 use Rattle.matches.proofs.Onto.{none_missed}
 
 -- the value of dart d is 0, above m or used before
@@ -49,11 +51,6 @@ bad m f d = eqb (nth f d) 0 || ltb m (nth f d) || some (d - 1) (λ e. eqb (nth f
 -- βi of dart d is not kept
 abbrev pub parted : Map → Map → List ℕ → ℕ → ℕ → Bool
 parted M M' f d i = not (eqb (nth f (sew M i d)) (sew M' i (nth f d)))
-
--- the second of two tests passes
-either_second : (a b : Bool) → b ≡ true → (a || b) ≡ true
-either_second true b e = refl
-either_second false b e = e
 
 module _ (m : ℕ) (f : List ℕ) (d : ℕ) where
   pub bad_says : (bad m f d ≡ true) ↔ BadImage m f d
@@ -79,7 +76,7 @@ module _ (m : ℕ) (f : List ℕ) (d : ℕ) where
       back (inl z) = simp (eq-eqb (nth f d) 0 z)
       back (inr (inl over)) = simp (ne_eqb (nth f d) 0 (λ z. omega arith), lt-ltb m (nth f d) over)
       back (inr (inr (e, low, less, same))) =
-          either_second (eqb (nth f d) 0 || ltb m (nth f d)) (some (d - 1) used) (passes_some used (d - 1) e low (omega arith) (eq-eqb (nth f e) (nth f d) same))
+          rw (passes_some used (d - 1) e low (omega arith) (eq-eqb (nth f e) (nth f d) same)) (or-true _)
 
 pub parts_says : (M M' : Map) (f : List ℕ) (d : ℕ) → (parts M M' f d ≡ true) ↔ NotKept M M' f d
 unfolding parts
@@ -174,15 +171,6 @@ module _ (a b : Given) (f : List ℕ) where
         λ h. ((h.0, h.1), (parts_says (map_of a) (map_of b) f p).0 h.2),
       )))))))
 
--- a second table's verdict accepts where the table's own does
-pub second_accepts : (v : Verdict) → accepts (of_second v) ≡ true → accepts v ≡ true
-unfolding of_second accepts refused
-second_accepts v e = at (tested (accepts v))
-  where
-    at : Tested (accepts v) → accepts v ≡ true
-    at (passes a) = a
-    at (fails a) = absurd (eqb-false (20 + v.number) 0 (ne_eqb (20 + v.number) 0 (λ z. omega arith)) (eqb-true (20 + v.number) 0 (simp a at e)))
-
 module _ (a b : Given) (f : List ℕ) where
   -- where 10, 11 and 12 hold of no place, the list is a matching
   module _ (ten : Silent (plain 10 (Unlike a b))) (eleven : Silent (image_line a f)) (twelve : Silent (kept_line a b f)) where
@@ -271,7 +259,7 @@ module _ (a b : Given) (f : List ℕ) where
       at c =
           let rest = clear_split (raised (check_lines b)) c in
           let second = clear_shows (shows_raised (check_shows b)) rest.0 in
-          (clear_shows (check_shows a) first.0, table_whole _ b (second_accepts (check_answer b) (ap accepts second)), last rest.1)
+          (clear_shows (check_shows a) first.0, table_whole _ b (of_second-accepts (check_answer b) second), last rest.1)
 
   pub clear_judge : check_answer a ≡ accepted → check_answer b ≡ accepted → Matching (map_of a) (map_of b) f → judge_answer a b f ≡ accepted
   unfolding judge_lines CheckShows of_second accepts accepted
@@ -282,5 +270,5 @@ module _ (a b : Given) (f : List ℕ) where
       (past (plain_silent (ten_silent m)) (past (eleven_silent m) (past (twelve_silent m) clear)))))
 
 -- no second answer fits
-pub judge_list_only : (a b : Given) (f : List ℕ) (r s : Judged) → r ≡ judged_of (judge_answer a b f) → s ≡ judged_of (judge_answer a b f) → r ≡ s
-judge_list_only a b f r s is is' = is ∙ sym is'
+pub judge_list_only : (a b : Given) (f : List ℕ) (r s : Result Unit ListRefusal) → list_verdict_of r ≡ judge_answer a b f → list_verdict_of s ≡ judge_answer a b f → r ≡ s
+judge_list_only a b f r s is is' = list_shown_only r s (is ∙ sym is')

@@ -1,5 +1,6 @@
 -- What is proved of the definitions of this crate.
 pub mod Onto
+pub mod Shown
 pub mod Judge
 pub mod Inside
 pub mod JudgeTheorems

@@ -2,20 +2,32 @@
 --     shown_only                      a verdict
 --     signature_only, match_only      the signature call, the match
 --     found_only, filed_only          search, filing
---     judged_shown                    an answer's number and place are those of the verdict that it stands for
+--     judged_shown, match_shown, list_shown, drawer_shown
+--                                     a verdict is that of the answer that it shows
+--     signed_as, found_as, filed_as   the same for the signature call, search and filing
 -- Assumes nothing.
 use Prim.Native.Nat.{ℕ}
 use mathlib.Core.Path.{◌≡◌, sym, ap, ◌∙◌}
-use mathlib.Core.Bool.{true}
-use borrow.Author.Tests.{eq-eqb}
 use mathlib.Core.List.{List}
+use lib.ListN.{length}
+use Rattle.std.specs.Prelude.{Result, Ok, Err}
 use Rattle.maps.specs.Given.{Given}
-use Rattle.maps.specs.Verdict.{Verdict, accepted, accepts}
-use Rattle.maps.specs.Answer.{verdict_of, judged_of}
-use Rattle.maps.specs.declared.Judged.{Judged}
-use Rattle.maps.proofs.Answer.{verdict_of-judged_of}
-use Rattle.drawer.specs.Drawer.{Drawer}
+use Rattle.maps.specs.Verdict.{Verdict}
+use Rattle.maps.specs.Shown.{shown_refusal, verdict_of}
+use Rattle.maps.specs.declared.Refusal.{Refusal}
+use Rattle.words.specs.Sign.{SignatureAnswer, shown_signed, signature_answer, SignsAs}
+use Rattle.words.specs.Match.{shown_mismatch, match_verdict}
+use Rattle.words.specs.declared.found.Signature.{Signature}
+use Rattle.words.specs.declared.matching.Mismatch.{Mismatch}
+use Rattle.matches.specs.Shown.{shown_list_refusal, list_verdict_of}
+use Rattle.matches.specs.declared.ListRefusal.{ListRefusal}
+use Rattle.drawer.specs.Drawer.{Drawer, SearchAnswer, search_answer, FilingAnswer, filing_answer}
+use Rattle.drawer.specs.Answers.{shown_search, shown_filing, FilesAs}
+use Rattle.drawer.specs.Shown.{shown_drawer, drawer_verdict}
+use Rattle.drawer.specs.declared.records.Found.{Found}
+use Rattle.drawer.specs.declared.refusal.DrawerRefusal.{DrawerRefusal}
 use Rattle.reader.specs.Boundary.{ShownAs, SignedAs, MatchedAs, FoundAs, FiledAs}
+use Rattle.reader.specs.Inside.{Shows, signed_numbers, found_numbers, filed_numbers}
 use Rattle.reader.specs.declared.DuftheimVerdict.{DuftheimVerdict}
 use Rattle.reader.specs.declared.DuftheimSigned.{DuftheimSigned}
 use Rattle.reader.specs.declared.DuftheimFound.{DuftheimFound}
@@ -57,13 +69,56 @@ filed_only die g D r s o p a b = (
   a.written ∙ sym b.written,
 )
 
--- an answer's number and place are those of the verdict that it stands for
-pub judged_shown : (v : Verdict) → (accepts v ≡ true → v ≡ accepted) → (j : Judged) → j ≡ judged_of v → (r : DuftheimVerdict) → ShownAs (verdict_of j) r → ShownAs v r
-unfolding accepts accepted
-judged_shown v whole j is r shows = rw same at shows
-  where
-    clean : v.number ≡ 0 → v.place ≡ 0
-    clean z = ap (λ (w : Verdict). w.place) (whole (eq-eqb v.number 0 z))
+-- a verdict is that of the answer that it shows
+pub judged_shown : (answer : Result Unit Refusal) (v : Verdict) (r : DuftheimVerdict) → Shows shown_refusal answer r → verdict_of answer ≡ v → ShownAs v r
+judged_shown (Ok _) v r shows e = rw (sym e) shows
+judged_shown (Err _) v r shows e = rw (sym e) shows
 
-    same : verdict_of j ≡ v
-    same = ap verdict_of is ∙ verdict_of-judged_of v clean
+pub match_shown : (answer : Result Unit Mismatch) (v : Verdict) (r : DuftheimVerdict) → Shows shown_mismatch answer r → match_verdict answer ≡ v → ShownAs v r
+match_shown (Ok _) v r shows e = rw (sym e) shows
+match_shown (Err _) v r shows e = rw (sym e) shows
+
+pub list_shown : (answer : Result Unit ListRefusal) (v : Verdict) (r : DuftheimVerdict) → Shows shown_list_refusal answer r → list_verdict_of answer ≡ v → ShownAs v r
+list_shown (Ok _) v r shows e = rw (sym e) shows
+list_shown (Err _) v r shows e = rw (sym e) shows
+
+pub drawer_shown : (answer : Result Unit DrawerRefusal) (v : Verdict) (r : DuftheimVerdict) → Shows shown_drawer answer r → drawer_verdict answer ≡ v → ShownAs v r
+drawer_shown (Ok _) v r shows e = rw (sym e) shows
+drawer_shown (Err _) v r shows e = rw (sym e) shows
+
+pub signed_as : (g : Given) (before after : List ℕ) (answer : Result Signature Refusal) (r : DuftheimSigned) →
+    signed_numbers r ≡ shown_signed answer →
+    SignsAs g before answer after → SignedAs g before r after
+signed_as g before after answer r shown signs =
+    let e : signed_numbers r ≡ signature_answer g (length before) = shown ∙ signs.answer in
+    record {
+      number = ap (λ (a : SignatureAnswer). a.number) e;
+      place = ap (λ (a : SignatureAnswer). a.place) e;
+      start = ap (λ (a : SignatureAnswer). a.start) e;
+      symmetries = ap (λ (a : SignatureAnswer). a.symmetries) e;
+      written = signs.written;
+    }
+
+pub found_as : (g : Given) (D : Drawer) (answer : Result Found DrawerRefusal) (r : DuftheimFound) →
+    found_numbers r ≡ shown_search answer →
+    shown_search answer ≡ search_answer g D → FoundAs g D r
+found_as g D answer r shown found =
+    let e : found_numbers r ≡ search_answer g D = shown ∙ found in
+    record {
+      number = ap (λ (a : SearchAnswer). a.number) e;
+      place = ap (λ (a : SearchAnswer). a.place) e;
+      die = ap (λ (a : SearchAnswer). a.die) e;
+      record_number = ap (λ (a : SearchAnswer). a.at) e;
+    }
+
+pub filed_as : (die : ℕ) (g : Given) (D : Drawer) (after : List ℕ) (answer : Result ℕ DrawerRefusal) (r : DuftheimFiled) →
+    filed_numbers r ≡ shown_filing answer →
+    FilesAs die g D answer after → FiledAs die g D r after
+filed_as die g D after answer r shown files =
+    let e : filed_numbers r ≡ filing_answer die g D = shown ∙ files.answer in
+    record {
+      number = ap (λ (a : FilingAnswer). a.number) e;
+      place = ap (λ (a : FilingAnswer). a.place) e;
+      count = ap (λ (a : FilingAnswer). a.count) e;
+      written = files.written;
+    }

@@ -1,14 +1,18 @@
 // The C boundary: the calls that the camera's program makes, on numbers and slices. include/duftheim.h declares them.
 #![tactic(auto)]
 
+ghost use Rattle.std.specs.Prelude.{◌≡◌};
 ghost use Rattle.maps.specs.Given.{lent};
-ghost use Rattle.maps.specs.Answer.{verdict_of};
+ghost use Rattle.maps.specs.Shown.{given};
+ghost use Rattle.words.specs.Sign.{shown_signed};
 ghost use Rattle.drawer.specs.Drawer.{drawer};
-ghost use Rattle.reader.specs.Boundary.{ShownAs, CheckedAs, SignedAs, MatchedAs, ListJudgedAs, DrawerCheckedAs, FoundAs, FiledAs};
+ghost use Rattle.drawer.specs.Answers.{shown_search, shown_filing};
+ghost use Rattle.reader.specs.Boundary.{CheckedAs, SignedAs, MatchedAs, ListJudgedAs, DrawerCheckedAs, FoundAs, FiledAs};
+ghost use Rattle.reader.specs.Inside.{Shows, signed_numbers, found_numbers, filed_numbers};
 
-use drawer::{Filing, Search};
-use maps::Judged;
-use words::Signed;
+use drawer::{DrawerRefusal, Found, Records};
+use maps::{Refusal, Shown, Table};
+use words::Signature;
 
 // A verdict, as C sees it: number 0 and place 0 where the call accepts.
 #[repr(C)]
@@ -47,6 +51,103 @@ pub struct DuftheimFiled {
     pub count: usize,
 }
 
+impl<E: Shown + Drop> From<Result<(), E>> for DuftheimVerdict {
+    ghost from_gives = { λ answer seen. Shows E.shown answer seen };
+
+    #[tactic(auto, unfolding(maps::specs::Verdict::accepted))]
+    fn from(answer: Result<(), E>) -> DuftheimVerdict {
+        match answer {
+            Ok(()) => DuftheimVerdict {
+                number: 0,
+                place: 0,
+            },
+            Err(refusal) => {
+                let (number, place) = refusal.number_and_place();
+                DuftheimVerdict { number, place }
+            }
+        }
+    }
+}
+
+impl From<Result<Signature, Refusal>> for DuftheimSigned {
+    ghost from_gives = { λ answer seen. signed_numbers seen ≡ shown_signed answer };
+
+    fn from(answer: Result<Signature, Refusal>) -> DuftheimSigned {
+        match answer {
+            Ok(signature) => DuftheimSigned {
+                number: 0,
+                place: 0,
+                start: signature.start,
+                symmetries: signature.symmetries,
+            },
+            Err(refusal) => {
+                let (number, place) = refusal.number_and_place();
+                DuftheimSigned {
+                    number, // 1 to 9
+                    place,
+                    start: 0,
+                    symmetries: 0,
+                }
+            }
+        }
+    }
+}
+
+impl From<Result<Found, DrawerRefusal>> for DuftheimFound {
+    ghost from_gives = { λ answer seen. found_numbers seen ≡ shown_search answer };
+
+    fn from(answer: Result<Found, DrawerRefusal>) -> DuftheimFound {
+        match answer {
+            Ok(found) => DuftheimFound {
+                number: 0,
+                place: 0,
+                die: found.die,
+                record: found.at,
+            },
+            Err(refusal) => {
+                let (number, place) = refusal.number_and_place();
+                DuftheimFound {
+                    number, // 1 to 3, 5 to 9 or 13 to 15
+                    place, // an entry's, a dart's or, of 14, a record's
+                    die: 0,
+                    record: 0,
+                }
+            }
+        }
+    }
+}
+
+// `Ok` has the new count.
+impl From<Result<usize, DrawerRefusal>> for DuftheimFiled {
+    ghost from_gives = { λ answer seen. filed_numbers seen ≡ shown_filing answer };
+
+    fn from(answer: Result<usize, DrawerRefusal>) -> DuftheimFiled {
+        match answer {
+            Ok(count) => DuftheimFiled {
+                number: 0,
+                place: 0,
+                count,
+            },
+            Err(refusal) => {
+                let (number, place) = refusal.number_and_place();
+                DuftheimFiled {
+                    number, // 1 to 3, 5 to 9, 13, 14 or 16 to 18
+                    place, // an entry's, a dart's or, of 14, 16 and 17, a record's
+                    count: 0,
+                }
+            }
+        }
+    }
+}
+
+// A table, whose parts C lends one by one.
+fn table_of(n: usize, m: usize, numbers: &[u16]) -> Table<'_>
+    ensures { given result ≡ lent n m numbers.now }
+{
+    Table { n, m, numbers }
+}
+
+#[tactic(auto, using(crate::proofs::Boundary::signed_as))]
 #[unsafe(no_mangle)]
 pub extern "C" fn duftheim_signature(
     n: usize,
@@ -56,42 +157,18 @@ pub extern "C" fn duftheim_signature(
 ) -> DuftheimSigned
     ensures { SignedAs (lent n m table.now) output.old result output.new }
 {
-    let signed = words::signature(n, m, table, output);
-    match signed {
-        Signed::Word { start, symmetries } => DuftheimSigned {
-            number: 0,
-            place: 0,
-            start,
-            symmetries,
-        },
-        Signed::Refused { number, place } => DuftheimSigned {
-            number, // 1 to 9
-            place,
-            start: 0,
-            symmetries: 0,
-        },
-    }
+    words::signature(table_of(n, m, table), output).into()
 }
 
-fn shown(judged: Judged) -> DuftheimVerdict
-    ensures { ShownAs (verdict_of judged) result }
-{
-    match judged {
-        Judged::Passed => DuftheimVerdict {
-            number: 0,
-            place: 0,
-        },
-        Judged::Refused { number, place } => DuftheimVerdict { number, place },
-    }
-}
-
+#[tactic(auto, using(crate::proofs::Boundary::judged_shown))]
 #[unsafe(no_mangle)]
 pub extern "C" fn duftheim_check(n: usize, m: usize, table: &[u16]) -> DuftheimVerdict
     ensures { CheckedAs (lent n m table.now) result }
 {
-    shown(labels::check(n, m, table))
+    labels::check(table_of(n, m, table)).into()
 }
 
+#[tactic(auto, using(crate::proofs::Boundary::match_shown))]
 #[unsafe(no_mangle)]
 pub extern "C" fn duftheim_match(
     n: usize,
@@ -104,10 +181,12 @@ pub extern "C" fn duftheim_match(
 ) -> DuftheimVerdict
     ensures { MatchedAs (lent n m table.now) (lent n2 m2 table2.now) output.old result output.new }
 {
-    let judged = words::match_maps(n, m, table, n2, m2, table2, output);
-    shown(judged)
+    let first = table_of(n, m, table);
+    let second = table_of(n2, m2, table2);
+    words::match_maps(first, second, output).into()
 }
 
+#[tactic(auto, using(crate::proofs::Boundary::list_shown))]
 #[unsafe(no_mangle)]
 pub extern "C" fn duftheim_judge(
     n: usize,
@@ -120,16 +199,20 @@ pub extern "C" fn duftheim_judge(
 ) -> DuftheimVerdict
     ensures { ListJudgedAs (lent n m table.now) (lent n2 m2 table2.now) list.now result }
 {
-    shown(matches::judge_list(n, m, table, n2, m2, table2, list))
+    let from = table_of(n, m, table);
+    let to = table_of(n2, m2, table2);
+    matches::judge_list(from, to, list).into()
 }
 
+#[tactic(auto, using(crate::proofs::Boundary::drawer_shown))]
 #[unsafe(no_mangle)]
 pub extern "C" fn duftheim_drawer_check(count: usize, bytes: &[u8]) -> DuftheimVerdict
     ensures { DrawerCheckedAs (drawer count bytes.now) result }
 {
-    shown(drawer::check_drawer(count, bytes))
+    drawer::check_drawer(Records { count, bytes }).into()
 }
 
+#[tactic(auto, using(crate::proofs::Boundary::found_as))]
 #[unsafe(no_mangle)]
 pub extern "C" fn duftheim_search(
     n: usize,
@@ -140,23 +223,10 @@ pub extern "C" fn duftheim_search(
 ) -> DuftheimFound
     ensures { FoundAs (lent n m table.now) (drawer count bytes.now) result }
 {
-    let searched = drawer::search_drawer(n, m, table, count, bytes);
-    match searched {
-        Search::Found { die, at } => DuftheimFound {
-            number: 0,
-            place: 0,
-            die,
-            record: at,
-        },
-        Search::Refused { number, place } => DuftheimFound {
-            number, // 1 to 3, 5 to 9 or 13 to 15
-            place, // an entry's, a dart's or, of 14, a record's
-            die: 0,
-            record: 0,
-        },
-    }
+    drawer::search_drawer(table_of(n, m, table), Records { count, bytes }).into()
 }
 
+#[tactic(auto, using(crate::proofs::Boundary::filed_as))]
 #[unsafe(no_mangle)]
 pub extern "C" fn duftheim_file(
     die: u32,
@@ -168,17 +238,5 @@ pub extern "C" fn duftheim_file(
 ) -> DuftheimFiled
     ensures { FiledAs die (lent n m table.now) (drawer count bytes.old) result bytes.new }
 {
-    let filing = drawer::file_layout(die, n, m, table, count, bytes);
-    match filing {
-        Filing::Filed { count: new_count } => DuftheimFiled {
-            number: 0,
-            place: 0,
-            count: new_count,
-        },
-        Filing::Refused { number, place } => DuftheimFiled {
-            number, // 1 to 3, 5 to 9, 13, 14 or 16 to 18
-            place, // an entry's, a dart's or, of 14, 16 and 17, a record's
-            count: 0,
-        },
-    }
+    drawer::file_layout(die, table_of(n, m, table), count, bytes).into()
 }

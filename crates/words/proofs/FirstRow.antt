@@ -1,19 +1,20 @@
 -- The laws of `specs/FirstRow.antt`: the rank of a start is read off its word, so it tells starts apart.
---     first_few                  a first label is at most 3
 --     first_number               the first number of a word
 --     rank_less                  a start of a lesser rank has a lesser word
 --     rank_filter                the starts of the least rank may be kept alone
---     over_passes, rank_passes, passed_by, not_passed
---                                when a start is passed over
+--     rank_read                  a rank, of what is read
+--     Ranking, ranking_..        the least rank, start by start
+--     passed_by, not_passed      when a start is passed over
 -- Assumes nothing.
-use Prim.Native.Nat.{ℕ, suc, ◌*◌, ◌≤◌, ◌<◌}
+use Prim.Native.Nat.{ℕ, suc, min, ◌+◌, ◌*◌, ◌≤◌, ◌<◌}
 use mathlib.Core.Path.{◌≡◌, refl, sym, ap, ◌∙◌}
-use mathlib.Core.Bool.{Bool, true, false, cond, ◌||◌}
-use mathlib.Core.Logic.{◌⊎◌, inl, inr}
+use mathlib.Core.Bool.{Bool, true, false, cond, not}
+use mir.Val.{bool_byte}
+use mathlib.Core.Logic.{◌⊎◌, inl, inr, ⊎_elim}
 use mathlib.Core.List.{List, [], ◌∷◌, ◌++◌}
 use native.Mathlib.Omega.{arith}
-use native.Mathlib.Nat.{zero-mul, mul-le-mul_right}
-use borrow.Author.Tests.{eqb-true, eqb-false, eq-eqb, ltb-true, ltb-false, lt-ltb}
+use native.Mathlib.Nat.{eq-or-lt_of_le, zero-mul, mul-le-mul_right}
+use borrow.Author.Tests.{eqb-true, eqb-false, eq-eqb, ltb-true, ltb-false}
 use lib.Dec.{eqb, ltb}
 use lib.ListN.{length, get_or, take}
 use lib.Seq.{take-suc}
@@ -33,17 +34,6 @@ use Rattle.words.proofs.Order.{less_irreflexive}
 use Rattle.words.proofs.Starts.{some_numbers}
 use Rattle.words.proofs.Lexicographic.{less_at}
 use Rattle.words.proofs.Leading.{Filter}
-
--- three darts at most have a label when β1(d) gets its own
-pub first_few : (d back next : ℕ) → first_label d back next ≤ 3
-unfolding first_label
-first_few d back next = at (eqb next 0) (eqb next d) (eqb back 0 || eqb back next)
-  where
-    at : (k l m : Bool) → cond k 0 (cond l 1 (cond m 2 3)) ≤ 3
-    at true l m = omega arith
-    at false true m = omega arith
-    at false false true = omega arith
-    at false false false = omega arith
 
 -- d alone has labelled none but itself
 alone_none : (d e : ℕ) → (e ≡ d → ⊥) → label_in (d ∷ []) e ≡ 0
@@ -154,6 +144,15 @@ sewn2 M d = at (tested (eqb (sew M 2 d) 0))
     at (passes e) = free (eqb-true (sew M 2 d) 0 e) (simp e)
     at (fails e) = sewn (omega (arith, eqb-false (sew M 2 d) 0 e)) (simp e)
 
+-- the rank of what is read: the first label, and whether d is 2-sewn
+pub rank_read : (M : Map) (d first : ℕ) (b : Bool) → first ≡ first_label d (sew M 0 d) (sew M 1 d) → b ≡ not (eqb (sew M 2 d) 0) → 2 * first + bool_byte b ≡ rank_of M d
+unfolding rank_of
+rank_read M d first b is told = rw (is, told) (ap (λ (x : ℕ). 2 * first_label d (sew M 0 d) (sew M 1 d) + x) (at (tested (eqb (sew M 2 d) 0))))
+  where
+    at : Tested (eqb (sew M 2 d) 0) → bool_byte (not (eqb (sew M 2 d) 0)) ≡ cond (eqb (sew M 2 d) 0) 0 1
+    at (passes e) = simp e
+    at (fails e) = simp e
+
 -- a word of sewings up to β2 and more has two numbers
 two_numbers : {M : Map} → Accepted M → 2 ≤ M.dim → 2 ≤ M.dim * M.darts
 two_numbers {M} a more = omega (arith, a.bounds.darts_least, mul-le-mul_right M.darts more)
@@ -212,16 +211,44 @@ module _ {M : Map} (a : Accepted M) where
             (l.start, l.dart, eq-eqb (rank_of M l.start) r l.reached, rank_less a l.start d l.dart dart (rw l.reached above));
       }
 
+-- of the starts below d, r is the least rank
+pub record Ranking (M : Map) (r d : ℕ) : Type 0 where
+  pub start : ℕ
+  pub dart : IsDart M start
+  pub reached : rank_of M start ≡ r
+  pub none_less : (e : ℕ) → 1 ≤ e → e < d → r ≤ rank_of M e
+
+pub ranking_start : {M : Map} {r : ℕ} → 1 ≤ M.darts → r ≡ rank_of M 1 → Ranking M r 2
+ranking_start {M} some is =
+    record {
+      start = 1;
+      dart = (omega arith, some);
+      reached = sym is;
+      none_less = λ e low high. let same : e ≡ 1 = omega arith in rw (same, is) (omega arith);
+    }
+
+-- one start more, whose rank is x
+pub ranking_turn : {M : Map} {r x d : ℕ} → Ranking M r d → IsDart M d → x ≡ rank_of M d → Ranking M (min r x) (d + 1)
+ranking_turn {M} {r} {x} {d} k dart is = at (tested (ltb x r))
+  where
+    below : {y : ℕ} → y ≤ r → y ≤ x → (e : ℕ) → 1 ≤ e → e < d + 1 → y ≤ rank_of M e
+    below of-r of-x e low high =
+        ⊎_elim (λ same. omega (arith, ap (rank_of M) same)) (λ before. omega (arith, k.none_less e low before)) (eq-or-lt_of_le (let h : e ≤ d = omega arith in h))
+
+    at : Tested (ltb x r) → Ranking M (min r x) (d + 1)
+    at (passes h) =
+        let less = ltb-true x r h in
+        record { start = d; dart = dart; reached = omega arith; none_less = below (omega arith) (omega arith) }
+    at (fails h) =
+        let more = ltb-false x r h in
+        record { start = k.start; dart = k.dart; reached = omega (arith, k.reached); none_less = below (omega arith) (omega arith) }
+
+pub ranking_done : {M : Map} {r d : ℕ} → Ranking M r d → M.darts < d → LeastRank M r
+ranking_done k past =
+    record { start = k.start; dart = k.dart; reached = k.reached; none_less = λ e dart. k.none_less e dart.0 (omega arith) }
+
 module _ (M : Map) (up : List ℕ) (r d : ℕ) where
-  -- a start is passed over that has a dart over it, and any other by its rank
-  pub over_passes : 0 < nth up d → true ≡ passes_over M up r d
-  unfolding passes_over
-  over_passes covered = simp (lt-ltb 0 (nth up d) covered)
-
-  pub rank_passes : nth up d ≡ 0 → ltb r (rank_of M d) ≡ passes_over M up r d
-  unfolding passes_over
-  rank_passes none = simp none
-
+  -- a start that is passed over has a dart over it, or is of a greater rank
   pub passed_by : passes_over M up r d ≡ true → (0 < nth up d) ⊎ (r < rank_of M d)
   unfolding passes_over
   passed_by is = at (tested (ltb 0 (nth up d)))

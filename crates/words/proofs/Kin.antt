@@ -6,33 +6,32 @@
 --     queue_first                    a queue that holds a labelling starts with its start
 --     tied_alike                     the labellings from two starts that have one word are such queues
 --     alike_joins                    they may be joined
---     kin_joined_all                 and every tree then still has one word
+--     kin_joined_all, kin_joined_front
+--                                    and every tree then still has one word
 --     First M s                      s is the least dart of its word
 --     first_stays                    such a top stays, whatever is joined
 --     first_leads                    and what is joined to it has it for its top
 -- Assumes nothing.
-use Prim.Native.Nat.{ℕ, zero, suc, ◌-◌, ◌≤◌, ◌<◌}
+use Prim.Native.Nat.{ℕ, zero, suc, ◌≤◌, ◌<◌}
 use mathlib.Core.Path.{◌≡◌, refl, sym, ap, ◌∙◌}
 use mathlib.Core.List.{List}
 use native.Mathlib.Omega.{arith}
-use borrow.Author.Tests.{leb-true, leb-false}
-use lib.Dec.{leb}
-use lib.ListN.{length, take, replicate, length-replicate, get_or-replicate}
-use lib.Seq.{get_or-take}
+use native.Mathlib.Nat.{le_refl}
+use lib.ListN.{length, take, replicate, length-replicate}
+use lib.Seq.{length-take-le}
 use Rattle.maps.specs.Least.{nth}
 use Rattle.maps.specs.Map.{Map, IsDart}
 use Rattle.maps.specs.Accepted.{Accepted}
-use Rattle.maps.proofs.Least.{Tested, passes, fails, tested, nth-suc, nth_at, nth_past}
 use Rattle.maps.proofs.Accepted.{darts_most}
 use Rattle.labels.specs.Queue.{labelling}
 use Rattle.labels.proofs.Queue.{labelling_first}
 use Rattle.labels.proofs.Reached.{labelling_numbers}
 use Rattle.words.specs.Words.{word}
-use Rattle.words.specs.Forest.{top_of, hang, under, joined, joined_all, Forest, Placed, JoinsAll}
+use Rattle.words.specs.Forest.{top_of, hang, under, joined, joined_all, Placed, JoinsAll}
 use Rattle.words.proofs.Carried.{word_carried}
 use Rattle.words.proofs.Labels.{SameWord}
 use Rattle.words.proofs.Meaning.{words_matching, words_labels}
-use Rattle.words.proofs.Forest.{along_trees, top_of_top, top_of_over, top_of_le, nth_top_of, forest_hang, over_hang, top_of_hang, top_of_kept, Hung, second_hung, first_hung, one_tree, hung, joined_is, joined_all_zero, joined_all_suc}
+use Rattle.words.proofs.Forest.{Forest, nth-take, joined_all_front, none_over, descends_none, along_trees, top_of_top, top_of_over, top_of_le, nth_top_of, forest_hang, over_hang, top_of_hang, top_of_kept, Hung, second_hung, first_hung, one_tree, hung, joined_is, joined_all_zero, joined_all_suc}
 
 -- what is over a dart has its word
 pub record Kin (M : Map) (up : List ℕ) : Type 0 where
@@ -40,17 +39,10 @@ pub record Kin (M : Map) (up : List ℕ) : Type 0 where
   pub one_word : (d : ℕ) → 1 ≤ d → d ≤ M.darts → 0 < nth up d → word M (nth up d) ≡ word M d
 
 -- at first no dart is under another
-none_over : (d : ℕ) → 1 ≤ d → ◌≡◌ {A = ℕ} (nth (replicate 1020 0) d) 0
-none_over d low = at (tested (leb d 1020))
-  where
-    at : Tested (leb d 1020) → ◌≡◌ {A = ℕ} (nth (replicate 1020 0) d) 0
-    at (passes e) = nth_at (replicate 1020 0) d low ∙ get_or-replicate {A = ℕ} 1020 (d - 1) 0 0 (omega (arith, leb-true d 1020 e))
-    at (fails e) = nth_past (replicate 1020 0) d (omega (arith, leb-false d 1020 e, length-replicate {A = ℕ} 1020 0))
-
 pub kin_none : (M : Map) → Kin M (replicate 1020 0)
 kin_none M =
     record {
-      forest = record { long = length-replicate {A = ℕ} 1020 0; lower = λ d low. omega (arith, none_over d low) };
+      forest = record { long = length-replicate {A = ℕ} 1020 0; lower = descends_none };
       one_word = λ d low high c. absurd (omega (arith, none_over d low));
     }
 
@@ -58,10 +50,10 @@ module _ {M : Map} {up : List ℕ} (k : Kin M up) where
   -- the top of a dart's tree has its word
   kin_top_both : (d : ℕ) → IsDart M d → IsDart M (top_of up d) × (word M (top_of up d) ≡ word M d)
   kin_top_both d dart =
-      along_trees up k.forest (λ d. d ≤ M.darts → IsDart M (top_of up d) × (word M (top_of up d) ≡ word M d))
+      along_trees up k.forest.lower (λ d. d ≤ M.darts → IsDart M (top_of up d) × (word M (top_of up d) ≡ word M d))
       (λ d low e high. let own = top_of_top up d e in rw own ((low, high), refl))
       (λ d low c next high.
-      let over = top_of_over up k.forest d low c in
+      let over = top_of_over up k.forest.lower d low c in
       let lower = k.forest.lower d low in
       let top = next (omega arith) in
       rw over (top.0, top.1 ∙ k.one_word d low high c))
@@ -79,15 +71,10 @@ pub record Alike (M : Map) (queue lead : List ℕ) (k : ℕ) : Type 0 where
   pub second : (j : ℕ) → 1 ≤ j → j ≤ k → IsDart M (nth lead j)
   pub one_word : (j : ℕ) → 1 ≤ j → j ≤ k → word M (nth queue j) ≡ word M (nth lead j)
 
--- a place of the first m numbers of an array
-nth-take : (m : ℕ) (xs : List ℕ) (j : ℕ) → 1 ≤ j → j ≤ m → nth xs j ≡ nth (take m xs) j
-nth-take m xs zero low high = absurd (omega arith)
-nth-take m xs (suc j) low high = nth-suc xs j ∙ sym (get_or-take m xs j 0 high) ∙ sym (nth-suc (take m xs) j)
-
 -- the first of a labelling is its start
 pub queue_first : {M : Map} → Accepted M → (d : ℕ) (queue : List ℕ) → take M.darts queue ≡ labelling M d → nth queue 1 ≡ d
 queue_first {M} a d queue is =
-    nth-take M.darts queue 1 (omega arith) a.bounds.darts_least ∙ ap (λ (q : List ℕ). nth q 1) is ∙ labelling_first M d
+    sym (nth-take M.darts queue 1 a.bounds.darts_least) ∙ ap (λ (q : List ℕ). nth q 1) is ∙ labelling_first M d
 
 -- a matching of the map with itself carries words along: the darts that have one label from d and from e have one word
 pub tied_alike : {M : Map} → Accepted M → (d e : ℕ) → IsDart M d → IsDart M e → word M d ≡ word M e → {queue lead : List ℕ}
@@ -105,24 +92,24 @@ tied_alike {M} a d e dart dart' same {queue} {lead} is is' =
     s = record { accepted = a; accepted' = a; start = dart; start' = dart'; same_dim = refl; same_word = same }
 
     first : (j : ℕ) → 1 ≤ j → j ≤ M.darts → nth queue j ≡ nth (labelling M d) j
-    first j low high = nth-take M.darts queue j low high ∙ ap (λ (q : List ℕ). nth q j) is
+    first j low high = sym (nth-take M.darts queue j high) ∙ ap (λ (q : List ℕ). nth q j) is
 
     second : (j : ℕ) → 1 ≤ j → j ≤ M.darts → nth lead j ≡ nth (labelling M e) j
-    second j low high = nth-take M.darts lead j low high ∙ ap (λ (q : List ℕ). nth q j) is'
+    second j low high = sym (nth-take M.darts lead j high) ∙ ap (λ (q : List ℕ). nth q j) is'
 
 module _ {M : Map} (a : Accepted M) where
   dart_placed : {d : ℕ} → IsDart M d → Placed d
   dart_placed dart = record { low = dart.0; high = omega (arith, dart.1, darts_most a.bounds) }
 
-  pub alike_joins : {up queue lead : List ℕ} → Forest up → length queue ≡ 1020 → length lead ≡ 1020 → Alike M queue lead M.darts → JoinsAll up queue lead M.darts
-  alike_joins f long_queue long_lead k =
+  pub alike_joins : {queue lead : List ℕ} → length queue ≡ 1020 → length lead ≡ 1020 → Alike M queue lead M.darts → JoinsAll (take M.darts queue) (take M.darts lead)
+  alike_joins {queue} {lead} long_queue long_lead k =
+      let few = darts_most a.bounds in
+      let here : length (take M.darts queue) ≡ M.darts = length-take-le M.darts queue (omega arith) in
+      let there : length (take M.darts lead) ≡ M.darts = length-take-le M.darts lead (omega arith) in
       record {
-        forest = f;
-        few = darts_most a.bounds;
-        long_queue = long_queue;
-        long_lead = long_lead;
-        first = λ j low high. dart_placed (k.first j low high);
-        second = λ j low high. dart_placed (k.second j low high);
+        as_long = there ∙ sym here;
+        first = λ j low high. let inside : j ≤ M.darts = omega arith in rw (nth-take M.darts queue j inside) (dart_placed (k.first j low inside));
+        second = λ j low high. let inside : j ≤ M.darts = omega arith in rw (nth-take M.darts lead j inside) (dart_placed (k.second j low inside));
       }
 
   -- a top goes under another of its word
@@ -163,7 +150,7 @@ pub record First (M : Map) (s : ℕ) : Type 0 where
 -- so it is a top
 first_is_top : {M : Map} {up : List ℕ} {s : ℕ} → Kin M up → First M s → top_of up s ≡ s
 first_is_top {M} {up} {s} k f =
-    omega (arith, top_of_le up k.forest s f.dart.0, f.least (top_of up s) (kin_top k s f.dart) (kin_top_word k s f.dart))
+    omega (arith, top_of_le up k.forest.lower s f.dart.0, f.least (top_of up s) (kin_top k s f.dart) (kin_top_word k s f.dart))
 
 module _ {M : Map} (a : Accepted M) {s : ℕ} (f : First M s) where
   module _ {up : List ℕ} (k : Kin M up) (d e : ℕ) (d-dart : IsDart M d) (e-dart : IsDart M e) (same : word M d ≡ word M e) where
@@ -188,14 +175,14 @@ module _ {M : Map} (a : Accepted M) {s : ℕ} (f : First M s) where
             let dart = kin_top k d d-dart in
             rw is
             (top_of_kept up second first k.forest (dart_placed a (kin_top k e e-dart)) dart.0 h
-            (nth_top_of up k.forest e e-dart.0) (nth_top_of up k.forest d d-dart.0)
+            (nth_top_of up k.forest.lower e e-dart.0) (nth_top_of up k.forest.lower d d-dart.0)
             x low (λ z. not_greater second first dart one h (sym z ∙ here))
             ∙ here)
         at (first_hung h is) =
             let dart = kin_top k e e-dart in
             rw is
             (top_of_kept up first second k.forest (dart_placed a (kin_top k d d-dart)) dart.0 h
-            (nth_top_of up k.forest d d-dart.0) (nth_top_of up k.forest e e-dart.0)
+            (nth_top_of up k.forest.lower d d-dart.0) (nth_top_of up k.forest.lower e e-dart.0)
             x low (λ z. not_greater first second dart (sym one) h (sym z ∙ here))
             ∙ here)
         at (one_tree h is) = rw is here
@@ -212,7 +199,7 @@ module _ {M : Map} (a : Accepted M) {s : ℕ} (f : First M s) where
       at (first_hung h is) =
           rw is
           (top_of_hang up (top_of up d) (top_of up s) k.forest (dart_placed a (kin_top k d dart)) (kin_top k s f.dart).0 h
-          (nth_top_of up k.forest d dart.0) (nth_top_of up k.forest s f.dart.0) d dart.0 refl
+          (nth_top_of up k.forest.lower d dart.0) (nth_top_of up k.forest.lower s f.dart.0) d dart.0 refl
           ∙ top)
       at (one_tree h is) = rw is (h ∙ top)
 
@@ -225,6 +212,11 @@ module _ {M : Map} (a : Accepted M) {up queue lead : List ℕ} {m : ℕ} (k : Ki
   kin_joined_all (suc j) h =
       rw (joined_all_suc queue lead up j)
       (kin_joined a (kin_joined_all j (omega arith)) _ _ (alike.first (suc j) (omega arith) h) (alike.second (suc j) (omega arith) h) (alike.one_word (suc j) (omega arith) h))
+
+  -- the same of the front of two queues
+  pub kin_joined_front : length queue ≡ 1020 → m ≤ 1020 → Kin M (joined_all (length (take m queue)) (take m queue) (take m lead) up)
+  kin_joined_front long few =
+      rw (length-take-le m queue (omega arith), joined_all_front queue lead up m m (le_refl m)) (kin_joined_all m (le_refl m))
 
   module _ {s : ℕ} (f : First M s) where
     stays_more : (j : ℕ) → suc j ≤ m → (x : ℕ) → 1 ≤ x → top_of (after j) x ≡ s → top_of (after (suc j)) x ≡ s

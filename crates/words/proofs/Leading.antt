@@ -1,5 +1,5 @@
 -- The starts of a map are tried upwards against the best word so far, and some are passed over (01: "the least word in lexicographic
--- order over all m starts"): what `Signing::run` keeps, and what it has at its end.
+-- order over all m starts"): what `least_word` keeps, and what it has at its end.
 --     Filter M kept           a start that is not kept has a greater word than one that is
 --     Best M kept up d s b    of the starts below d that are kept, b is the least word and s the least start that yields it; those that
 --                             yield it are in the tree of s
@@ -111,7 +111,7 @@ module _ {M : Map} (a : Accepted M) {kept : ℕ → Bool} (f : Filter M kept) {u
         none_less = one_more (λ e. kept e ≡ true → less (word M e) b ≡ false) best.none_less
             (λ is. rw (← same) (best.none_less u covered lower (as-kept ∙ is)));
         led = one_more (λ e. kept e ≡ true → word M e ≡ b → top_of up e ≡ s) best.led
-            (λ is e. top_of_over up k.forest d dart.0 covered ∙ best.led u covered lower (as-kept ∙ is) (same ∙ e));
+            (λ is e. top_of_over up k.forest.lower d dart.0 covered ∙ best.led u covered lower (as-kept ∙ is) (same ∙ e));
       }
 
   -- a start is left out that is not kept
@@ -155,7 +155,7 @@ module _ {M : Map} (a : Accepted M) {kept : ℕ → Bool} (f : Filter M kept) {u
       at : (e : ℕ) → IsDart M e → word M e ≡ word M s → Tested (ltb e d) → s ≤ e
       at e there same (passes h) =
           let top = best.led e there.0 (ltb-true e d h) (f.by_word e s there dart same ∙ k) (same ∙ sym is) in
-          omega (arith, top_of_le up best.kin.forest e there.0)
+          omega (arith, top_of_le up best.kin.forest.lower e there.0)
       at e there same (fails h) = omega (arith, ltb-false e d h)
 
   -- a start whose word is the best has the word of the one that leads

@@ -1,5 +1,6 @@
 -- The laws of `specs/`, for this crate's proofs and those of the crates that link it. Read in this order.
 pub mod Opened
+pub mod Usable
 pub mod Words
 pub mod Order
 pub mod Carried
@@ -18,6 +19,9 @@ pub mod Leading
 pub mod Known
 pub mod FirstRow
 pub mod Trying
+pub mod Spelling
+pub mod Tried
+pub mod Images
 pub mod Match
 pub mod MatchTheorems
 pub mod OwnWord

@@ -7,8 +7,12 @@
 --     length-shown             as many images as darts
 --     match_first, match_second, match_unlike, match_none, match_passed
 --                              the answer, by what each judging gives
+--     as_mismatch, no_mismatch
+--                              a refusal that became a mismatch
 --     matches_refused, matches_passed
 --                              an answer and its output
+--     mismatch_only, mismatch_refuses, match_verdict_only
+--                              an answer is told by what it shows
 --     matches_only             no second answer fits
 --     match_shows              the answer is what its lines show
 --     Cleared, match_clear     what an accepted match has passed
@@ -31,21 +35,25 @@ use Rattle.maps.specs.Given.{Given, map_of}
 use Rattle.maps.specs.Verdict.{Verdict, accepted, refused, accepts, unless, in_order, of_second}
 use Rattle.maps.specs.Lines.{Shows, here, on, none, plain}
 use Rattle.maps.specs.Rules.{judge_output}
-use Rattle.maps.specs.Answer.{judged_of}
-use Rattle.maps.specs.declared.Judged.{Judged}
-use Rattle.maps.specs.declared.Judged.TheVariants.{Passed, Refused}
+use Rattle.std.specs.Prelude.{Result, Ok, Err, MatchResult}
+use Rattle.std.specs.Result.{IsErrAnd}
+use Rattle.std.proofs.lemmas.Result.{err_from_is_err_and}
+use Rattle.maps.specs.declared.Refusal.{Refusal}
+use Rattle.maps.specs.Shown.{shown_refusal}
 use Rattle.maps.specs.declared.Output.TheVariants.{Images}
 use Rattle.maps.proofs.Least.{Tested, passes, fails, tested, true_not_false, Found, least_found, Sought, nowhere, somewhere, sought, length-up_to}
 use Rattle.maps.proofs.Verdict.{refused_refuses, in_order_passed, in_order_refused, in_order_first, unless_passed, unless_refused, unless-accepts}
 use Rattle.maps.proofs.Lines.{clear_shows, plain_silent, shows_then, shows_raised, both_pass}
-use Rattle.maps.proofs.Answer.{judged_refused}
+use Rattle.maps.proofs.Answer.{refusal_only, refusal_low, refusal_high}
 use Rattle.labels.specs.Judging.{table_answer, check_answer}
 use Rattle.labels.specs.Theorems.{CheckShows}
 use Rattle.labels.proofs.Judging.{table_shows, table_clear, check_whole}
 use Rattle.labels.proofs.Theorems.{check_shows}
 use Rattle.words.specs.Words.{word, yields, by_labels}
 use Rattle.words.specs.Sign.{over}
-use Rattle.words.specs.Match.{image_of_first, shown, judge_pair, judge_matching, match_answer, match_output, MatchesAs, Unlike, match_lines}
+use Rattle.words.specs.Match.{image_of_first, shown, judge_pair, judge_matching, match_answer, match_output, shown_mismatch, match_verdict, MatchesAs, Unlike, match_lines}
+use Rattle.words.specs.declared.matching.Mismatch.{Mismatch}
+use Rattle.words.specs.declared.matching.Mismatch.TheVariants.{First, Second, Unmatched}
 use Rattle.words.proofs.Order.{yields_word, word_yields}
 use Rattle.words.proofs.Carried.{word_carried}
 use Rattle.words.proofs.Labels.{SameWord}
@@ -157,6 +165,44 @@ pub pair_alike : (a b : Given) → a.n ≡ b.n → a.m ≡ b.m → judge_pair a 
 unfolding judge_pair
 pair_alike a b n m = unless_passed _ 10 0 (simp (eq-eqb a.n b.n n, eq-eqb a.m b.m m))
 
+-- verdicts of two numbers are two
+apart : {v w : Verdict} → v ≡ w → (v.number ≡ w.number → ⊥) → ⊥
+apart same other = other (ap (λ (v : Verdict). v.number) same)
+
+-- two mismatches that show one number at one place are one, and so are two answers
+pub mismatch_only : (e f : Mismatch) → shown_mismatch e ≡ shown_mismatch f → e ≡ f
+unfolding refused
+mismatch_only (First r) (First s) same = ap First (refusal_only r s same)
+mismatch_only (First r) (Second s) same = absurd (apart same (omega (arith, refusal_high r)))
+mismatch_only (First r) Unmatched same = absurd (apart same (omega (arith, refusal_high r)))
+mismatch_only (Second r) (First s) same = absurd (apart same (omega (arith, refusal_high s)))
+mismatch_only (Second r) (Second s) same =
+    let number : 20 + (shown_refusal r).number ≡ 20 + (shown_refusal s).number = ap (λ (v : Verdict). v.number) same in
+    let one : (shown_refusal r).number ≡ (shown_refusal s).number = omega arith in
+    let place : (shown_refusal r).place ≡ (shown_refusal s).place = ap (λ (v : Verdict). v.place) same in
+    ap Second (refusal_only r s (λ i. record { number = one i; place = place i }))
+mismatch_only (Second r) Unmatched same = absurd (apart same (omega arith))
+mismatch_only Unmatched (First s) same = absurd (apart same (omega (arith, refusal_high s)))
+mismatch_only Unmatched (Second s) same = absurd (apart same (omega arith))
+mismatch_only Unmatched Unmatched same = refl
+
+mismatch_low : (e : Mismatch) → 1 ≤ (shown_mismatch e).number
+unfolding refused
+mismatch_low (First r) = refusal_low r
+mismatch_low (Second r) = omega arith
+mismatch_low Unmatched = omega arith
+
+pub mismatch_refuses : (e : Mismatch) → accepts (shown_mismatch e) ≡ false
+unfolding accepts
+mismatch_refuses e = let low = mismatch_low e in ne_eqb _ 0 (λ z. omega arith)
+
+pub match_verdict_only : (r s : Result Unit Mismatch) → match_verdict r ≡ match_verdict s → r ≡ s
+unfolding accepted
+match_verdict_only (Ok a) (Ok b) same = refl
+match_verdict_only (Ok a) (Err f) same = absurd (apart same (let low = mismatch_low f in omega arith))
+match_verdict_only (Err e) (Ok b) same = absurd (apart same (let low = mismatch_low e in omega arith))
+match_verdict_only (Err e) (Err f) same = ap Err (mismatch_only e f same)
+
 -- the answer, by what each judging gives
 module _ (a b : Given) (room : ℕ) where
   pub match_first : accepts (table_answer (Images room) a) ≡ false → match_answer a b room ≡ table_answer (Images room) a
@@ -192,20 +238,35 @@ module _ (a b : Given) (room : ℕ) where
         unfolding judge_matching in_order accepts accepted unless
         match_passed some = after_pair ∙ simp (lt-ltb 0 (image_of_first (map_of a) (map_of b)) some)
 
+-- what `?` finds after a refusal became a mismatch: whose it was, or that there was none
+module _ {j : Result Unit Refusal} {m : Result Unit Mismatch} (C : Refusal → Mismatch) (cases : MatchResult j (λ x. m ≡ Ok x) (λ e. IsErrAnd m (λ f. f ≡ C e))) where
+  pub as_mismatch : (f : Mismatch) → m ≡ Err f → (e : Refusal) × (j ≡ Err e) × (f ≡ C e)
+  as_mismatch f was = at j cases
+    where
+      at : (k : Result Unit Refusal) → MatchResult k (λ x. m ≡ Ok x) (λ e. IsErrAnd m (λ f. f ≡ C e)) → (e : Refusal) × (k ≡ Err e) × (f ≡ C e)
+      at (Ok u) h = cc
+      at (Err e) h = let p = err_from_is_err_and m h in let same : f ≡ p.0 = cc in (e, refl, same ∙ p.2)
+
+  pub no_mismatch : (u : Unit) → m ≡ Ok u → j ≡ Ok u
+  no_mismatch u was = at j cases
+    where
+      at : (k : Result Unit Refusal) → MatchResult k (λ x. m ≡ Ok x) (λ e. IsErrAnd m (λ f. f ≡ C e)) → k ≡ Ok u
+      at (Ok a) h = refl
+      at (Err e) h = let p = err_from_is_err_and m h in cc
+
 -- an answer and its output
 module _ {a b : Given} {out : List ℕ} where
-  pub matches_refused : (k p : ℕ) → 1 ≤ k → match_answer a b (length out) ≡ refused k p → MatchesAs a b out (Refused k p) out
+  pub matches_refused : (e : Mismatch) → match_answer a b (length out) ≡ shown_mismatch e → MatchesAs a b out (Err e) out
   unfolding match_output
-  matches_refused k p low is =
-      record { answer = judged_refused k p low is; written = sym (simp (ap accepts is ∙ refused_refuses k p low)) }
+  matches_refused e is = record { answer = sym is; written = sym (simp (ap accepts is ∙ mismatch_refuses e)) }
 
-  pub matches_passed : {out' : List ℕ} → match_answer a b (length out) ≡ accepted → out' ≡ over (shown (map_of a) (map_of b)) out → MatchesAs a b out Passed out'
-  unfolding match_output judged_of accepts accepted
-  matches_passed is wrote = record { answer = sym (rw is refl); written = wrote ∙ sym (rw is refl) }
+  pub matches_passed : {out' : List ℕ} (u : Unit) → match_answer a b (length out) ≡ accepted → out' ≡ over (shown (map_of a) (map_of b)) out → MatchesAs a b out (Ok u) out'
+  unfolding match_output accepts accepted
+  matches_passed u is wrote = record { answer = sym is; written = wrote ∙ sym (rw is refl) }
 
 -- no second answer fits: neither another answer nor another output
-pub matches_only : (a b : Given) (out : List ℕ) (r s : Judged) (o p : List ℕ) → MatchesAs a b out r o → MatchesAs a b out s p → (r ≡ s) × (o ≡ p)
-matches_only a b out r s o p x y = (x.answer ∙ sym y.answer, x.written ∙ sym y.written)
+pub matches_only : (a b : Given) (out : List ℕ) (r s : Result Unit Mismatch) (o p : List ℕ) → MatchesAs a b out r o → MatchesAs a b out s p → (r ≡ s) × (o ≡ p)
+matches_only a b out r s o p x y = (match_verdict_only r s (x.answer ∙ sym y.answer), x.written ∙ sym y.written)
 
 -- what the two tables are once they have passed
 pub record Cleared (a b : Given) (room : ℕ) : Type 0 where

@@ -1,29 +1,26 @@
 -- The laws of `specs/Own.antt`: a word is the signature exactly when one start yields it and none is less.
 --     own_yielded, own_less                 by what the starts have shown
 --     own_first                             a table that is its own signature is what start 1 yields
---     own_held                              an array that holds the table stands for it
 --     own_refused, own_told                 the answer, by the verdict on the table and that
---     own_only                              no second answer fits
+--     shown_own_only, own_only              no second answer fits
 -- Assumes nothing.
-use Prim.Native.Nat.{ℕ, ◌*◌, ◌≤◌}
+use Prim.Native.Nat.{ℕ, ◌≤◌}
 use mathlib.Core.Path.{◌≡◌, refl, sym, ap, ◌∙◌}
-use mathlib.Core.Bool.{Bool, true, false, cond}
+use mathlib.Core.Bool.{Bool, true, false}
 use mathlib.Core.List.{List}
-use lib.ListN.{take}
+use native.Mathlib.Omega.{arith}
+use Rattle.std.specs.Prelude.{Result, Ok, Err}
 use Rattle.maps.specs.Map.{Map, IsDart}
-use Rattle.maps.specs.Given.{Given, map_of, Shaped}
-use Rattle.maps.specs.Verdict.{refused, accepts}
-use Rattle.maps.specs.Answer.{judged_of}
-use Rattle.maps.specs.declared.Judged.TheVariants as judged
+use Rattle.maps.specs.Given.{Given, map_of}
+use Rattle.maps.specs.Verdict.{accepted, accepts}
+use Rattle.maps.specs.Shown.{shown_refusal}
+use Rattle.maps.specs.declared.Refusal.{Refusal}
 use Rattle.maps.specs.Accepted.{Accepted}
 use Rattle.maps.proofs.Least.{true_not_false, Misses}
-use Rattle.maps.proofs.Answer.{refused-accepts, refused_is}
+use Rattle.maps.proofs.Answer.{refusal_only, refusal_low, refusal_refuses}
 use Rattle.labels.specs.Judging.{check_answer}
 use Rattle.words.specs.Words.{word, same, less, signature, yields, start}
-use Rattle.words.specs.Own.{own_answer}
-use Rattle.words.specs.Inside.{HeldAs}
-use Rattle.words.specs.declared.own_signature.Own.{Own}
-use Rattle.words.specs.declared.own_signature.Own.TheVariants.{Signature, Other, Refused}
+use Rattle.words.specs.Own.{OwnAnswer, shown_own, own_answer}
 use Rattle.words.proofs.Order.{same_equal, equal_same, least_word_is, signature_least, start_word, yields_word, word_yields}
 use Rattle.words.proofs.Starts.{false_of_not_true}
 use Rattle.words.proofs.Meaning.{signature_start}
@@ -54,19 +51,21 @@ own_first g a miss =
     true_not_false (word_yields (map_of g) g.table 1 own) miss)
 
 module _ (g : Given) where
-  pub own_refused : (k p : ℕ) → judged.Refused k p ≡ judged_of (check_answer g) → Refused k p ≡ own_answer g
-  unfolding own_answer refused
-  own_refused k p is =
-      let v : check_answer g ≡ refused k p = refused_is (check_answer g) k p is in
-      rw (refused-accepts (check_answer g) k p is, v) refl
-
-  pub own_told : accepts (check_answer g) ≡ true → (b : Bool) → b ≡ same g.table (signature (map_of g)) → cond b Signature Other ≡ own_answer g
+  pub own_refused : (r : Refusal) → shown_refusal r ≡ check_answer g → shown_own (Err r) ≡ own_answer g
   unfolding own_answer
-  own_told takes b is = simp (takes, is)
+  own_refused r is = rw (← is, refusal_refuses r) refl
 
--- an array that holds the table has its numbers in front
-pub own_held : (g : Given) → Shaped g → (held : List ℕ) → HeldAs g.table held → take (g.n * g.m) held ≡ g.table
-own_held g shaped held is = ap (λ (k : ℕ). take k held) (sym shaped.long) ∙ is.numbers
+  pub own_told : accepted ≡ check_answer g → (own : Bool) → own ≡ same g.table (signature (map_of g)) → shown_own (Ok own) ≡ own_answer g
+  unfolding own_answer accepts accepted
+  own_told takes own is = rw (← takes, is) refl
 
-pub own_only : (g : Given) (r s : Own) → r ≡ own_answer g → s ≡ own_answer g → r ≡ s
-own_only g r s a b = a ∙ sym b
+-- no second answer fits
+pub shown_own_only : (r s : Result Bool Refusal) → shown_own r ≡ shown_own s → r ≡ s
+unfolding accepted
+shown_own_only (Ok a) (Ok b) same = ap Ok (ap (λ (o : OwnAnswer). o.own) same)
+shown_own_only (Ok a) (Err s) same = let number : 0 ≡ (shown_refusal s).number = ap (λ (o : OwnAnswer). o.verdict.number) same in absurd (omega (arith, refusal_low s))
+shown_own_only (Err r) (Ok b) same = let number : (shown_refusal r).number ≡ 0 = ap (λ (o : OwnAnswer). o.verdict.number) same in absurd (omega (arith, refusal_low r))
+shown_own_only (Err r) (Err s) same = ap Err (refusal_only r s (ap (λ (o : OwnAnswer). o.verdict) same))
+
+pub own_only : (g : Given) (r s : Result Bool Refusal) → shown_own r ≡ own_answer g → shown_own s ≡ own_answer g → r ≡ s
+own_only g r s a b = shown_own_only r s (a ∙ sym b)

@@ -25,6 +25,8 @@ use borrow.Author.Tests.{eqb-true, eqb-false}
 use lib.Dec.{eqb}
 use lib.ListN.{length, get_or, set, take, replicate}
 use lib.Seq.{get_or-take, length-take-le, take-length}
+use Rattle.std.specs.declared.cmp.Ordering.{Ordering}
+use Rattle.std.specs.declared.cmp.Ordering.TheVariants.{Equal}
 use Rattle.maps.specs.Least.{nth}
 use Rattle.maps.specs.Map.{Map, IsDart, sew}
 use Rattle.maps.specs.Accepted.{ToDarts, Accepted}
@@ -39,8 +41,6 @@ use Rattle.labels.proofs.Inside.{holds_same, holds_length, holds_blank, holds_ne
 use Rattle.words.specs.Words.{word, lesser}
 use Rattle.words.specs.Sign.{over}
 use Rattle.words.specs.Inside.{side_of, Met, Weighed, leaves_at, front, Tried}
-use Rattle.words.specs.declared.engine.Side.{Side}
-use Rattle.words.specs.declared.engine.Side.TheVariants.{Same}
 use Rattle.words.specs.declared.engine.Labelling.{Labelling}
 use Rattle.words.proofs.Standing.{Standing, Ended, standing_start, standing_turn, standing_left}
 use Rattle.words.proofs.Words.{length_word, nth_word}
@@ -124,14 +124,14 @@ front_whole {M} a d dart =
     ap (λ (k : ℕ). take k (word M d)) (mul_comm M.darts M.dim ∙ sym (length_word a d dart)) ∙ take-length (word M d)
 
 -- k darts are served, and the numbers of their rows judged
-pub record Serving (M : Map) (d rows : ℕ) (firm : Bool) (held₀ labels queue held : List ℕ) (given : ℕ) (side : Side) (p k : ℕ) : Type 0 where
+pub record Serving (M : Map) (d rows : ℕ) (firm : Bool) (held₀ labels queue held : List ℕ) (given : ℕ) (side : Ordering) (p k : ℕ) : Type 0 where
   pub high : k ≤ rows
   pub place : p ≡ k * M.dim
   pub holds : Holds labels queue given (served M d k)
   pub stands : Standing (front M d rows) held₀ held firm side p
 
 -- of the next dart β0, β1, .. βi are met, and i numbers of its row judged: however a start stood before, it stands on
-pub record Rowing (M : Map) (d rows k : ℕ) (firm : Bool) (held₀ labels queue held : List ℕ) (given : ℕ) (side₀ : Side) (p₀ : ℕ) (side : Side) (p i : ℕ) : Type 0 where
+pub record Rowing (M : Map) (d rows k : ℕ) (firm : Bool) (held₀ labels queue held : List ℕ) (given : ℕ) (side₀ : Ordering) (p₀ : ℕ) (side : Ordering) (p i : ℕ) : Type 0 where
   pub high : i ≤ M.dim
   pub place : p ≡ p₀ + i
   pub holds : Holds labels queue given (row_of M d k i)
@@ -151,7 +151,7 @@ pub met_few : {q labels queue : List ℕ} {e : ℕ} {r : Labelling} → Met q e 
 met_few {q} {e = e} met = omega (arith, met.number, label_in_le (visit q e) e, holds_length met.holds, met.holds.few)
 
 module _ {M : Map} (a : Accepted M) (d : ℕ) (dart : IsDart M d) where
-  pub serving_start : (rows : ℕ) (firm : Bool) (queue held : List ℕ) → length queue ≡ 1020 → Serving M d rows firm held (set (replicate 1020 0) (d - 1) 1) (set queue 0 d) held 1 Same 0 0
+  pub serving_start : (rows : ℕ) (firm : Bool) (queue held : List ℕ) → length queue ≡ 1020 → Serving M d rows firm held (set (replicate 1020 0) (d - 1) 1) (set queue 0 d) held 1 Equal 0 0
   serving_start rows firm queue held long =
       record {
         high = omega arith;
@@ -163,7 +163,7 @@ module _ {M : Map} (a : Accepted M) (d : ℕ) (dart : IsDart M d) where
       }
 
 -- the next dart's turn: it may be served
-pub record DartTurn (M : Map) (d rows : ℕ) (firm : Bool) (held₀ labels queue held : List ℕ) (given : ℕ) (side : Side) (p k : ℕ) : Type 0 where
+pub record DartTurn (M : Map) (d rows : ℕ) (firm : Bool) (held₀ labels queue held : List ℕ) (given : ℕ) (side : Ordering) (p k : ℕ) : Type 0 where
   pub taken : Accepted M
   pub dart : IsDart M d
   pub most : rows ≤ M.darts
@@ -171,7 +171,7 @@ pub record DartTurn (M : Map) (d rows : ℕ) (firm : Bool) (held₀ labels queue
   pub so_far : Serving M d rows firm held₀ labels queue held given side p k
   pub turn : k < rows
 
-module _ {M : Map} {d rows : ℕ} {firm : Bool} {held₀ labels queue held : List ℕ} {given : ℕ} {side : Side} {p k : ℕ} (t : DartTurn M d rows firm held₀ labels queue held given side p k) where
+module _ {M : Map} {d rows : ℕ} {firm : Bool} {held₀ labels queue held : List ℕ} {given : ℕ} {side : Ordering} {p k : ℕ} (t : DartTurn M d rows firm held₀ labels queue held given side p k) where
   s : Serving M d rows firm held₀ labels queue held given side p k
   s = t.so_far
 
@@ -210,7 +210,7 @@ module _ {M : Map} {d rows : ℕ} {firm : Bool} {held₀ labels queue held : Lis
       }
 
   -- the row ends, and one dart more is served
-  pub rowing_end : {labels' queue' held' : List ℕ} {given' : ℕ} {side' : Side} {p' i : ℕ} → Rowing M d rows k firm held labels' queue' held' given' side p side' p' i → M.dim ≤ i → Serving M d rows firm held₀ labels' queue' held' given' side' p' (k + 1)
+  pub rowing_end : {labels' queue' held' : List ℕ} {given' : ℕ} {side' : Ordering} {p' i : ℕ} → Rowing M d rows k firm held labels' queue' held' given' side p side' p' i → M.dim ≤ i → Serving M d rows firm held₀ labels' queue' held' given' side' p' (k + 1)
   rowing_end {i = i} w done =
       let all : i ≡ M.dim = omega (arith, w.high) in
       record {
@@ -221,12 +221,12 @@ module _ {M : Map} {d rows : ℕ} {firm : Bool} {held₀ labels queue held : Lis
       }
 
 -- the next number's turn: one more sewing of that dart may be met
-pub record NumberTurn (M : Map) (d rows : ℕ) (firm : Bool) (held₀ labels queue held : List ℕ) (given : ℕ) (side : Side) (p k : ℕ) (labels₁ queue₁ held₁ : List ℕ) (given₁ : ℕ) (side₁ : Side) (p₁ i : ℕ) : Type 0 where
+pub record NumberTurn (M : Map) (d rows : ℕ) (firm : Bool) (held₀ labels queue held : List ℕ) (given : ℕ) (side : Ordering) (p k : ℕ) (labels₁ queue₁ held₁ : List ℕ) (given₁ : ℕ) (side₁ : Ordering) (p₁ i : ℕ) : Type 0 where
   pub dart_turn : DartTurn M d rows firm held₀ labels queue held given side p k
   pub so_far : Rowing M d rows k firm held labels₁ queue₁ held₁ given₁ side p side₁ p₁ i
   pub turn : i < M.dim
 
-module _ {M : Map} {d rows : ℕ} {firm : Bool} {held₀ labels queue held : List ℕ} {given : ℕ} {side : Side} {p k : ℕ} {labels₁ queue₁ held₁ : List ℕ} {given₁ : ℕ} {side₁ : Side} {p₁ i : ℕ} (n : NumberTurn M d rows firm held₀ labels queue held given side p k labels₁ queue₁ held₁ given₁ side₁ p₁ i) where
+module _ {M : Map} {d rows : ℕ} {firm : Bool} {held₀ labels queue held : List ℕ} {given : ℕ} {side : Ordering} {p k : ℕ} {labels₁ queue₁ held₁ : List ℕ} {given₁ : ℕ} {side₁ : Ordering} {p₁ i : ℕ} (n : NumberTurn M d rows firm held₀ labels queue held given side p k labels₁ queue₁ held₁ given₁ side₁ p₁ i) where
   t : DartTurn M d rows firm held₀ labels queue held given side p k
   t = n.dart_turn
 
@@ -282,7 +282,7 @@ module _ {M : Map} {d rows : ℕ} {firm : Bool} {held₀ labels queue held : Lis
         ∙ ap (λ (j : ℕ). get_or (word M d) j 0) (sym here)
         ∙ sym (get_d_front t.taken d t.dart rows t.most p₁ in_rows)
 
-    module _ {held' : List ℕ} {side' : Side} (weighed : Weighed held₁ held' p₁ r.label side₁ firm side') where
+    module _ {held' : List ℕ} {side' : Ordering} (weighed : Weighed held₁ held' p₁ r.label side₁ firm side') where
       pub rowing_turn : leaves_at firm side' ≡ false → Rowing M d rows k firm held labels' queue' held' r.given side p side' (p₁ + 1) (i + 1)
       rowing_turn on =
           record {
@@ -296,15 +296,13 @@ module _ {M : Map} {d rows : ℕ} {firm : Bool} {held₀ labels queue held : Lis
       rowing_left gone = standing_left stood t.fits row_inside r.label row_judged weighed gone
 
 -- a start whose rows were all tried: how its word comes out
-pub record TriedWhole (g : Given) (d : ℕ) (firm : Bool) (held labels' queue' held' : List ℕ) (side : Side) : Type 0 where
+pub record TriedWhole (g : Given) (d : ℕ) (firm : Bool) (held queue' held' : List ℕ) (side : Ordering) : Type 0 where
   pub outcome : side ≡ side_of (word (map_of g) d) (take (g.n * g.m) held)
   pub best : held' ≡ cond firm held (over (lesser (take (g.n * g.m) held) (word (map_of g) d)) held)
-  pub blank : labels' ≡ replicate 1020 0
-  pub long_queue : length queue' ≡ 1020
   pub whole : leaves_at firm side ≡ false → take g.m queue' ≡ labelling (map_of g) d
 
-pub tried_whole : {g : Given} {d : ℕ} {firm : Bool} {held labels' queue' held' : List ℕ} {side : Side} → Accepted (map_of g) → IsDart (map_of g) d
-    → Tried g d g.m firm held labels' queue' held' side → TriedWhole g d firm held labels' queue' held' side
+pub tried_whole : {g : Given} {d : ℕ} {firm : Bool} {held queue' held' : List ℕ} {side : Ordering} → Accepted (map_of g) → IsDart (map_of g) d
+    → Tried g d g.m firm held queue' held' side → TriedWhole g d firm held queue' held' side
 unfolding map_of
 tried_whole {g} {d} a dart t =
     let size : g.m * g.n ≡ g.n * g.m = mul_comm g.m g.n in
@@ -312,7 +310,5 @@ tried_whole {g} {d} a dart t =
     record {
       outcome = rw (all, size) at t.came.outcome;
       best = rw (all, size) at t.came.best;
-      blank = t.blank;
-      long_queue = t.long_queue;
       whole = λ on. t.whole on refl;
     }

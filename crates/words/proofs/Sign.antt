@@ -1,47 +1,44 @@
 -- The laws of `specs/Sign.antt`: what `signature` answers, from the verdict on its table and output.
 --     take-replicate           the first of equal numbers
 --     over_front, over_long    what is written over a list stands in front, and keeps its length
---     Shown, shown_..          numbers copied one by one
 --     signed_refused           a refusal: its number and place, and the output as it was
 --     length-signature         a signature has n·m numbers
 --     signed_run               what the run has found, copied to the output, is the answer
 --     signing_room             where the verdict accepts, the output is long enough
---     signed_only              no second answer fits
+--     shown_only               an answer is told by its numbers
 --     shown-signed, shown_answer
---                              an answer's numbers are those of the definition
---     signing_shows            they are what the call's lines show
+--                              an answer's numbers: all others are 0 in a refused one, and they are those of the definition
+--     signed_only              no second answer fits
+--     signing_shows            the answer's numbers are what the call's lines show
 -- Assumes nothing.
-use Prim.Native.Nat.{ℕ, zero, suc, ◌+◌, ◌*◌, ◌≤◌, ◌<◌}
+use Prim.Native.Nat.{ℕ, zero, suc, ◌*◌, ◌≤◌}
 use mathlib.Core.Path.{◌≡◌, refl, sym, ap, ◌∙◌}
 use mathlib.Core.Bool.{true, false}
 use mathlib.Core.List.{List, ◌∷◌, ◌++◌}
 use native.Mathlib.Omega.{arith}
-use native.Mathlib.Nat.{le_of_suc-le-suc, zero-add}
-use native.Mathlib.Numerals.{add-one}
-use borrow.Author.Tests.{leb-true, eqb-true, eqb-false}
-use lib.Dec.{eqb}
-use lib.ListN.{length, get_or, set, take, drop, replicate, length-append, length-drop, length-set}
-use lib.Seq.{take-append_seam, take-length, paste-suc}
+use native.Mathlib.Nat.{le_of_suc-le-suc}
+use borrow.Author.Tests.{leb-true}
+use lib.ListN.{length, take, drop, replicate, length-append, length-drop}
+use lib.Seq.{take-append_seam}
 use Rattle.maps.specs.Map.{Map}
 use Rattle.maps.specs.Accepted.{Accepted}
 use Rattle.maps.specs.Given.{Given, map_of, Shaped}
 use Rattle.maps.specs.Verdict.{Verdict, accepted, refused, accepts}
 use Rattle.maps.specs.Lines.{Shows, table_lines}
 use Rattle.maps.specs.Rules.{judge_output}
-use Rattle.maps.specs.Answer.{judged_of}
-use Rattle.maps.specs.declared.Judged.TheVariants as judged
+use Rattle.std.specs.Prelude.{Result, Ok, Err}
+use Rattle.maps.specs.Shown.{shown_refusal}
+use Rattle.maps.specs.declared.Refusal.{Refusal}
 use Rattle.maps.specs.declared.Output.TheVariants as output
 use Rattle.maps.proofs.Least.{Tested, passes, fails, tested}
 use Rattle.maps.proofs.Verdict.{unless-accepts}
-use Rattle.maps.proofs.Answer.{refused-accepts, refused_is}
+use Rattle.maps.proofs.Answer.{refusal_only, refusal_low, err_refuses}
 use Rattle.labels.specs.Judging.{table_answer}
 use Rattle.labels.proofs.Judging.{table_shows, table_clear, table_whole}
 use Rattle.words.specs.Words.{signature}
-use Rattle.words.specs.Sign.{SignatureAnswer, signed_of, shown_signed, signature_answer, signature_output, over, SignsAs}
+use Rattle.words.specs.Sign.{SignatureAnswer, shown_signed, signature_answer, signature_output, over, SignsAs}
 use Rattle.words.specs.Inside.{Signs}
-use Rattle.words.specs.declared.least_word.Signed.{Signed}
-use Rattle.words.specs.declared.least_word.Signed.TheVariants.{Word, Refused}
-use Rattle.words.specs.declared.least_word.Signing.{Signing}
+use Rattle.words.specs.declared.found.Signature.{Signature}
 use Rattle.words.proofs.Words.{length_word}
 use Rattle.words.proofs.Order.{signature_one}
 
@@ -59,34 +56,6 @@ pub over_long : (w held : List ℕ) → length w ≤ length held → length (ove
 unfolding over
 over_long w held fits = simp (length-append, length-drop) (omega arith)
 
--- output is the first i numbers of word, and then what was there
-pub record Shown (word output₀ output : List ℕ) (size i : ℕ) : Type 0 where
-  pub within : i ≤ size
-  pub long : length output ≡ length output₀
-  pub so_far : output ≡ take i word ++ drop i output₀
-
-pub shown_start : (word output : List ℕ) (size : ℕ) → Shown word output output size 0
-shown_start word output size = record { within = omega arith; long = refl; so_far = refl }
-
-module _ {word output₀ output : List ℕ} {size i : ℕ} (s : Shown word output₀ output size i) where
-  pub shown_turn : size ≤ length word → size ≤ length output₀ → i < size → Shown word output₀ (set output i (get_or word i 0)) size (i + 1)
-  shown_turn source room turn =
-      record {
-        within = omega arith;
-        long = length-set output i (get_or word i 0) ∙ s.long;
-        so_far = rw (s.so_far, add-one) (simp zero-add at (paste-suc output₀ 0 word i 0 (omega arith) (omega arith)));
-      }
-
-  pub shown_done : size ≤ i → output ≡ take size word ++ drop size output₀
-  shown_done past = let all : i ≡ size = omega (arith, s.within) in rw all at s.so_far
-
--- the numbers copied stand in front
-pub shown_front : (word output₀ output : List ℕ) → output ≡ take (length word) word ++ drop (length word) output₀ → take (length word) output ≡ word
-unfolding over
-shown_front word output₀ output is =
-    let all : take (length word) word ≡ word = take-length word in
-    rw (is, all) (over_front word output₀ (length word) refl)
-
 -- a signature has n·m numbers
 pub length-signature : {M : Map} → Accepted M → length (signature M) ≡ M.dim * M.darts
 length-signature {M} a =
@@ -98,14 +67,14 @@ module _ (g : Given) (out : List ℕ) where
   abbrev v : Verdict
   v = table_answer (output.Word (length out)) g
 
-  pub signed_refused : (k p : ℕ) → judged.Refused k p ≡ judged_of v → SignsAs g out (Refused k p) out
-  unfolding signed_of signature_answer signature_output accepts refused
-  signed_refused k p is =
-      let refuses : accepts v ≡ false = refused-accepts v k p is in
-      let same : v ≡ refused k p = refused_is v k p is in
-      let number : v.number ≡ k = ap (λ (w : Verdict). w.number) same in
-      let place : v.place ≡ p = ap (λ (w : Verdict). w.place) same in
-      record { answer = rw (← number, ← place) (simp (refuses, refuses)); written = simp refuses }
+  pub signed_refused : (r : Refusal) → shown_refusal r ≡ v → SignsAs g out (Err r) out
+  unfolding signature_answer signature_output
+  signed_refused r is =
+      let refuses : accepts v ≡ false = err_refuses r is in
+      record {
+        answer = simp refuses (λ i. record { number = (is i).number; place = (is i).place; start = 0; symmetries = 0 });
+        written = simp refuses;
+      }
 
   module _ (accepting : accepts v ≡ true) where
     cleared : (judge_output (output.Word (length out)) g.n g.m ≡ accepted) × Shaped g × Accepted (map_of g)
@@ -122,8 +91,8 @@ module _ (g : Given) (out : List ℕ) where
     signing_room = leb-true (g.n * g.m) (length out) (sym (unless-accepts _ 4 0 (omega arith)) ∙ ap accepts cleared.0)
 
     -- what the run has found, copied to the output, is the call's answer
-    pub signed_run : {out' : List ℕ} {r : Signing} → Signs g r → out' ≡ take (g.n * g.m) r.word ++ drop (g.n * g.m) out → SignsAs g out (Word r.start r.symmetries) out'
-    unfolding map_of over signed_of signature_answer signature_output
+    pub signed_run : {held out' : List ℕ} {r : Signature} → Signs g held r → out' ≡ take (g.n * g.m) held ++ drop (g.n * g.m) out → SignsAs g out (Ok r) out'
+    unfolding map_of over signature_answer signature_output
     signed_run found copied =
         let long : length (signature (map_of g)) ≡ g.n * g.m = length-signature signing_accepted in
         record {
@@ -135,41 +104,37 @@ module _ (g : Given) (out : List ℕ) where
               ∙ simp accepting;
         }
 
--- no second answer fits: neither another answer nor another output
-pub signed_only : (g : Given) (out : List ℕ) (r s : Signed) (o p : List ℕ) → SignsAs g out r o → SignsAs g out s p → (r ≡ s) × (o ≡ p)
-signed_only g out r s o p a b = (a.answer ∙ sym b.answer, a.written ∙ sym b.written)
+-- an answer is told by its numbers
+pub shown_only : (r s : Result Signature Refusal) → shown_signed r ≡ shown_signed s → r ≡ s
+shown_only (Ok a) (Ok b) e =
+    let first = ap (λ (x : SignatureAnswer). x.start) e in
+    let alike = ap (λ (x : SignatureAnswer). x.symmetries) e in
+    λ i. Ok (record { start = first i; symmetries = alike i })
+shown_only (Ok a) (Err s) e = absurd (omega (arith, ap (λ (x : SignatureAnswer). x.number) e, refusal_low s))
+shown_only (Err r) (Ok b) e = absurd (omega (arith, ap (λ (x : SignatureAnswer). x.number) e, refusal_low r))
+shown_only (Err r) (Err s) e =
+    let number = ap (λ (x : SignatureAnswer). x.number) e in
+    let place = ap (λ (x : SignatureAnswer). x.place) e in
+    ap Err (refusal_only r s (λ i. record { number = number i; place = place i }))
 
--- an answer's numbers are those that the definition gives
-pub shown-signed : (a : SignatureAnswer) → (a.number ≡ 0 → a.place ≡ 0) → ((a.number ≡ 0 → ⊥) → (a.start ≡ 0) × (a.symmetries ≡ 0)) → shown_signed (signed_of a) ≡ a
-unfolding shown_signed signed_of
-shown-signed a clean none = at (tested (eqb a.number 0))
-  where
-    at : Tested (eqb a.number 0) → shown_signed (signed_of a) ≡ a
-    at (passes e) =
-        let nought = eqb-true a.number 0 e in
-        simp e (λ i. record { number = sym nought i; place = sym (clean nought) i; start = a.start; symmetries = a.symmetries })
-    at (fails e) =
-        let rest = none (eqb-false a.number 0 e) in
-        simp e (λ i. record { number = a.number; place = a.place; start = sym rest.0 i; symmetries = sym rest.1 i })
+-- an accepting answer has place 0, and all other numbers of a refused one are 0
+pub shown-signed : (r : Result Signature Refusal) → ((shown_signed r).number ≡ 0 → (shown_signed r).place ≡ 0) × (((shown_signed r).number ≡ 0 → ⊥) → ((shown_signed r).start ≡ 0) × ((shown_signed r).symmetries ≡ 0))
+shown-signed (Ok s) = (λ none. refl, λ some. absurd (some refl))
+shown-signed (Err r) = (λ none. absurd (omega (arith, refusal_low r)), λ some. (refl, refl))
+
+-- the numbers of an answer that keeps the promise are the definition's
+pub shown_answer : {g : Given} {out after : List ℕ} {r : Result Signature Refusal} → SignsAs g out r after → shown_signed r ≡ signature_answer g (length out)
+shown_answer promised = promised.answer
+
+-- no second answer fits: neither another answer nor another output
+pub signed_only : (g : Given) (out : List ℕ) (r s : Result Signature Refusal) (o p : List ℕ) → SignsAs g out r o → SignsAs g out s p → (r ≡ s) × (o ≡ p)
+signed_only g out r s o p a b = (shown_only r s (a.answer ∙ sym b.answer), a.written ∙ sym b.written)
 
 module _ (g : Given) (room : ℕ) where
   abbrev w : Verdict
   w = table_answer (output.Word room) g
 
-  -- the numbers of the call's answer are the definition's
-  pub shown_answer : shown_signed (signed_of (signature_answer g room)) ≡ signature_answer g room
-  unfolding signature_answer accepts
-  shown_answer = shown-signed (signature_answer g room) (at (tested (eqb w.number 0))) (at_refused (tested (eqb w.number 0)))
-    where
-      at : Tested (eqb w.number 0) → (signature_answer g room).number ≡ 0 → (signature_answer g room).place ≡ 0
-      at (passes e) none = simp e
-      at (fails e) none = absurd (eqb-false w.number 0 e (simp e at none))
-
-      at_refused : Tested (eqb w.number 0) → ((signature_answer g room).number ≡ 0 → ⊥) → ((signature_answer g room).start ≡ 0) × ((signature_answer g room).symmetries ≡ 0)
-      at_refused (passes e) some = absurd (some (simp e))
-      at_refused (fails e) some = (simp e, simp e)
-
-  -- they are what the call's lines show
+  -- the numbers of the call's answer are what its lines show
   pub signing_shows : Shows (table_lines (output.Word room) g) (refused (signature_answer g room).number (signature_answer g room).place)
   unfolding signature_answer accepts accepted refused
   signing_shows = at (tested (accepts w))

@@ -12,35 +12,35 @@ use mathlib.Core.Bool.{Bool, true, false, cond}
 use mathlib.Core.List.{List, [], ◌∷◌, ◌++◌}
 use native.Mathlib.Omega.{arith}
 use native.Mathlib.Numerals.{add-one}
-use borrow.Author.Tests.{ltb-true, ltb-false}
-use lib.Dec.{ltb}
 use lib.ListN.{length, get_or, set, take, drop, length-set, take-append-drop}
 use lib.Seq.{take-suc, drop-drop, take-suc-set, drop-set-lt, get_or-take, take-take, length-take-le, take-length}
-use Rattle.maps.proofs.Least.{Tested, passes, fails, tested, true_not_false}
+use Rattle.std.specs.declared.cmp.Ordering.{Ordering}
+use Rattle.std.specs.declared.cmp.Ordering.TheVariants.{Less, Equal, Greater}
+use Rattle.std.specs.Ordering.{nat_cmp, MatchOrdering}
+use Rattle.std.specs.Cmp.{ranks}
+use Rattle.maps.proofs.Least.{true_not_false}
 use Rattle.words.specs.Words.{less, lesser}
 use Rattle.words.specs.Sign.{over}
-use Rattle.words.specs.Inside.{side_of, side_after, leaves_at, is_less, Weighed}
-use Rattle.words.specs.declared.engine.Side.{Side}
-use Rattle.words.specs.declared.engine.Side.TheVariants.{Less, Same, Greater}
+use Rattle.words.specs.Inside.{side_of, side_after, leaves_at, Weighed}
 use Rattle.words.proofs.Lexicographic.{less_at}
 use Rattle.words.proofs.Starts.{less_side, same_side, greater_side, lesser_less, lesser_same, lesser_greater}
 
 -- p numbers of W are judged against what `held₀` holds: the same so far; or W is less, the word not firm, and W is being written
-pub record Standing (W held₀ held : List ℕ) (firm : Bool) (side : Side) (p : ℕ) : Type 0 where
+pub record Standing (W held₀ held : List ℕ) (firm : Bool) (side : Ordering) (p : ℕ) : Type 0 where
   pub long : length held ≡ length held₀
   pub high : p ≤ length W
   pub agrees : take p held ≡ take p W
   pub rest : drop p held ≡ drop p held₀
   pub on : leaves_at firm side ≡ false
-  pub tied : side ≡ Same → held ≡ held₀
+  pub tied : side ≡ Equal → held ≡ held₀
   pub won : side ≡ Less → less W (take (length W) held₀) ≡ true
 
 -- how W comes out, and what is held once it has
-pub record Ended (W held₀ held : List ℕ) (firm : Bool) (side : Side) : Type 0 where
+pub record Ended (W held₀ held : List ℕ) (firm : Bool) (side : Ordering) : Type 0 where
   pub outcome : side ≡ side_of W (take (length W) held₀)
   pub best : held ≡ cond firm held₀ (over (lesser (take (length W) held₀) W) held₀)
 
-pub standing_start : (W held : List ℕ) (firm : Bool) → Standing W held held firm Same 0
+pub standing_start : (W held : List ℕ) (firm : Bool) → Standing W held held firm Equal 0
 unfolding leaves_at
 standing_start W held firm =
     record {
@@ -54,22 +54,25 @@ standing_start W held firm =
     }
 
 -- where a number leads, by the side before it
-data Leads (side : Side) (x y : ℕ) (r : Side) : Type 0 where
+data Leads (side : Ordering) (x y : ℕ) (r : Ordering) : Type 0 where
   stays : side ≡ Less → r ≡ Less → Leads side x y r
-  falls : side ≡ Same → x < y → r ≡ Less → Leads side x y r
-  rises : side ≡ Same → y < x → r ≡ Greater → Leads side x y r
-  keeps : side ≡ Same → x ≡ y → r ≡ Same → Leads side x y r
+  falls : side ≡ Equal → x < y → r ≡ Less → Leads side x y r
+  rises : side ≡ Equal → y < x → r ≡ Greater → Leads side x y r
+  keeps : side ≡ Equal → x ≡ y → r ≡ Equal → Leads side x y r
 
-leads : (firm : Bool) (side : Side) (x y : ℕ) (r : Side) → leaves_at firm side ≡ false → r ≡ side_after side x y → Leads side x y r
+leads : (firm : Bool) (side : Ordering) (x y : ℕ) (r : Ordering) → leaves_at firm side ≡ false → r ≡ side_after side x y → Leads side x y r
 unfolding side_after leaves_at
 leads firm Less x y r on is = stays refl is
 leads firm Greater x y r on is = absurd (true_not_false refl on)
-leads firm Same x y r on is = at (tested (ltb x y)) (tested (ltb y x))
+leads firm Equal x y r on is = at r is (ranks x y)
   where
-    at : Tested (ltb x y) → Tested (ltb y x) → Leads Same x y r
-    at (passes a) b = falls refl (ltb-true x y a) (simp a at is)
-    at (fails a) (passes b) = rises refl (ltb-true y x b) (simp (a, b) at is)
-    at (fails a) (fails b) = keeps refl (omega (arith, ltb-false x y a, ltb-false y x b)) (simp (a, b) at is)
+    told : (o : Ordering) → nat_cmp x y ≡ o → MatchOrdering o (x < y) (x ≡ y) (y < x)
+    told o e = rw e at (ranks x y)
+
+    at : (o : Ordering) → o ≡ nat_cmp x y → MatchOrdering (nat_cmp x y) (x < y) (x ≡ y) (y < x) → Leads Equal x y o
+    at Less e h = falls refl (told Less (sym e)) refl
+    at Greater e h = rises refl (told Greater (sym e)) refl
+    at Equal e h = keeps refl (told Equal (sym e)) refl
 
 -- the first numbers written over themselves change nothing
 pub over-take : (k : ℕ) (held : List ℕ) → k ≤ length held → over (take k held) held ≡ held
@@ -82,14 +85,14 @@ module _ (W held₀ : List ℕ) (fits : length W ≤ length held₀) where
   either true held same l = same
   either false held same l = same ∙ sym (ap (λ (w : List ℕ). over w held₀) l ∙ over-take (length W) held₀ fits)
 
-  ended_greater : (firm : Bool) {held : List ℕ} {side : Side} → side ≡ Greater → less (take (length W) held₀) W ≡ true → held ≡ held₀ → Ended W held₀ held firm side
+  ended_greater : (firm : Bool) {held : List ℕ} {side : Ordering} → side ≡ Greater → less (take (length W) held₀) W ≡ true → held ≡ held₀ → Ended W held₀ held firm side
   ended_greater firm {held} is h same =
       record { outcome = is ∙ sym (greater_side W _ h); best = either firm held same (lesser_greater W _ h) }
 
-  ended_same : (firm : Bool) {held : List ℕ} {side : Side} → side ≡ Same → W ≡ take (length W) held₀ → held ≡ held₀ → Ended W held₀ held firm side
+  ended_same : (firm : Bool) {held : List ℕ} {side : Ordering} → side ≡ Equal → W ≡ take (length W) held₀ → held ≡ held₀ → Ended W held₀ held firm side
   ended_same firm {held} is h same = record { outcome = is ∙ sym (same_side W _ h); best = either firm held same (lesser_same W _ h) }
 
-module _ {W held₀ held : List ℕ} {firm : Bool} {side : Side} {p : ℕ} (s : Standing W held₀ held firm side p) (fits : length W ≤ length held₀) (inside : p < length W) where
+module _ {W held₀ held : List ℕ} {firm : Bool} {side : Ordering} {p : ℕ} (s : Standing W held₀ held firm side p) (fits : length W ≤ length held₀) (inside : p < length W) where
   best : List ℕ
   best = take (length W) held₀
 
@@ -117,13 +120,13 @@ module _ {W held₀ held : List ℕ} {firm : Bool} {side : Side} {p : ℕ} (s : 
 
   module _ (x : ℕ) (number : x ≡ get_or W p 0) where
     -- the first number that differs decides
-    falls_less : side ≡ Same → x < get_or held p 0 → less W (take (length W) held₀) ≡ true
+    falls_less : side ≡ Equal → x < get_or held p 0 → less W (take (length W) held₀) ≡ true
     unfolding best
     falls_less tie below =
         let same = s.tied tie in
         less_at W best p inside (rw best_long inside) (sym (tied_best same)) (rw (← number, best_here same) below)
 
-    rises_greater : side ≡ Same → get_or held p 0 < x → less (take (length W) held₀) W ≡ true
+    rises_greater : side ≡ Equal → get_or held p 0 < x → less (take (length W) held₀) W ≡ true
     unfolding best
     rises_greater tie above =
         let same = s.tied tie in
@@ -149,7 +152,7 @@ module _ {W held₀ held : List ℕ} {firm : Bool} {side : Side} {p : ℕ} (s : 
         })
 
     -- the number is the one held
-    standing_same : side ≡ Same → x ≡ get_or held p 0 → Standing W held₀ held firm Same (p + 1)
+    standing_same : side ≡ Equal → x ≡ get_or held p 0 → Standing W held₀ held firm Equal (p + 1)
     unfolding leaves_at
     standing_same tie is =
         rw (add-one p)
@@ -167,22 +170,18 @@ module _ {W held₀ held : List ℕ} {firm : Bool} {side : Side} {p : ℕ} (s : 
           won = λ z. absurd (let y : ◌≡◌ {A = ℕ} 0 1 = cc in omega arith);
         })
 
-    module _ {held' : List ℕ} {r : Side} (w : Weighed held held' p x side firm r) where
+    module _ {held' : List ℕ} {r : Ordering} (w : Weighed held held' p x side firm r) where
       -- what is written where the start is less and the word not firm, and what stays otherwise
       wrote_less : r ≡ Less → firm ≡ false → held' ≡ set held p x
-      unfolding is_less
       wrote_less is unfirm = w.written ∙ rw (is, unfirm)
 
       wrote_firm : r ≡ Less → firm ≡ true → held' ≡ held
-      unfolding is_less
       wrote_firm is firmly = w.written ∙ rw (is, firmly)
 
       wrote_greater : r ≡ Greater → held' ≡ held
-      unfolding is_less
       wrote_greater is = w.written ∙ rw is
 
-      wrote_same : r ≡ Same → held' ≡ held
-      unfolding is_less
+      wrote_same : r ≡ Equal → held' ≡ held
       wrote_same is = w.written ∙ rw is
 
       -- one number more, where the start is not left
@@ -220,14 +219,14 @@ module _ {W held₀ held : List ℕ} {firm : Bool} {side : Side} {p : ℕ} (s : 
           at (keeps tie same is) = absurd (let no : false ≡ true = rw is at gone in true_not_false refl (sym no))
 
 -- all numbers are judged
-pub standing_end : {W held₀ held : List ℕ} {firm : Bool} {side : Side} → length W ≤ length held₀ → Standing W held₀ held firm side (length W) → Ended W held₀ held firm side
+pub standing_end : {W held₀ held : List ℕ} {firm : Bool} {side : Ordering} → length W ≤ length held₀ → Standing W held₀ held firm side (length W) → Ended W held₀ held firm side
 unfolding over leaves_at
 standing_end {W} {held₀} {held} {firm} {side} fits s = at side refl
   where
     whole : take (length W) held ≡ W
     whole = s.agrees ∙ take-length W
 
-    at : (t : Side) → side ≡ t → Ended W held₀ held firm side
+    at : (t : Ordering) → side ≡ t → Ended W held₀ held firm side
     at Less is =
         let unfirm : firm ≡ false = rw is at s.on in
         record {
@@ -239,7 +238,7 @@ standing_end {W} {held₀} {held} {firm} {side} fits s = at side refl
               ∙ sym (ap (λ (l : List ℕ). over l held₀) (lesser_less W (take (length W) held₀) (s.won is)))
               ∙ rw unfirm;
         }
-    at Same is =
+    at Equal is =
         let same = s.tied is in
         ended_same W held₀ fits firm is (sym whole ∙ ap (take (length W)) same) same
     at Greater is = absurd (let no : true ≡ false = rw is at s.on in true_not_false refl no)

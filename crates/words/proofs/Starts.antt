@@ -4,7 +4,6 @@
 --                                        how each comes out
 --     lesser_less, lesser_same, lesser_greater
 --                                        which of the two is the lesser
---     judged_usable                      what the judge has passed may be used
 --     seeks_ready                        each start may be tried against a word that is held
 --     same_stays                         a start that comes out the same is not left
 --     same-yields, less_told             what a start that came out so says of its word
@@ -16,46 +15,27 @@ use mathlib.Core.Bool.{Bool, true, false}
 use mathlib.Core.List.{List}
 use native.Mathlib.Omega.{arith}
 use native.Mathlib.Nat.{le_refl, zero-mul, one-mul, mul-le-mul_right}
-use lib.ListN.{length, get_or, replicate, length-replicate, get_or-replicate}
+use lib.ListN.{get_or, replicate, length-replicate, get_or-replicate}
+use Rattle.std.specs.declared.cmp.Ordering.{Ordering}
+use Rattle.std.specs.declared.cmp.Ordering.TheVariants.{Less, Equal, Greater}
+use Rattle.std.specs.Ordering.{is_lt, is_eq}
 use Rattle.maps.specs.Least.{nth}
 use Rattle.maps.specs.Map.{Map, IsDart, sew}
 use Rattle.maps.specs.Given.{Given, place_of, map_of}
 use Rattle.maps.specs.Accepted.{Accepted}
-use Rattle.maps.specs.Verdict.{accepts}
-use Rattle.maps.specs.declared.Output.{Output}
-use Rattle.maps.specs.declared.Judged.{Judged}
 use Rattle.maps.proofs.Least.{Tested, passes, fails, tested, true_not_false, nth-suc}
 use Rattle.maps.proofs.Accepted.{darts_most}
 use Rattle.labels.specs.Queue.{label_in, labelling}
-use Rattle.labels.specs.Judging.{table_answer, Judges}
-use Rattle.labels.proofs.Judging.{table_clear, table_whole}
 use Rattle.labels.proofs.Reached.{labelling_numbers}
 use Rattle.words.specs.Words.{word, same, less, lesser, yields}
-use Rattle.words.specs.Inside.{side_of, is_less, is_same, leaves_at, Usable, Ready, Seeks}
-use Rattle.words.specs.declared.engine.Side.{Side}
-use Rattle.words.specs.declared.engine.Side.TheVariants.{Less, Same, Greater}
+use Rattle.words.specs.Inside.{side_of, leaves_at, Ready}
 use Rattle.words.proofs.Words.{length_word, nth_word}
 use Rattle.words.proofs.Order.{same_equal, equal_same, less_irreflexive, less_transitive, before_less, Compared, before, equal, after, compared, yields_word, word_yields}
 use Rattle.words.proofs.Lexicographic.{less_at}
 
--- what the judge has passed may be used
-pub judged_usable : (o : Output) (g : Given) {r : Judged} {back labels : List ℕ} → Judges o g r back labels → accepts (table_answer o g) ≡ true → Usable g back
-judged_usable o g j passed =
-    let c = table_clear o g (table_whole o g passed) in
-    record { shaped = c.1; taken = c.2; backs = j.answer.backs ∙ simp passed }
-
 -- each start may be tried against a word that is held, with what the last one left
-pub seeks_ready : {g : Given} {back labels₀ queue₀ held₀ labels queue held : List ℕ} {d : ℕ} → Seeks g back labels₀ queue₀ held₀ → IsDart (map_of g) d →
-    labels ≡ replicate 1020 0 → length queue ≡ 1020 → held ≡ held₀ → Ready g back labels queue held d g.m
-seeks_ready {g} s dart blank long_queue firm =
-    record {
-      usable = s.usable;
-      dart = dart;
-      some_rows = le_refl g.m;
-      blank = blank;
-      long_queue = long_queue;
-      long_word = ap length firm ∙ s.long_word;
-    }
+pub seeks_ready : {g : Given} {d : ℕ} → IsDart (map_of g) d → Ready g d g.m
+seeks_ready {g} dart = record { dart = dart; some_rows = le_refl g.m }
 
 -- what fails is false
 pub false_of_not_true : (b : Bool) → (b ≡ true → ⊥) → b ≡ false
@@ -93,7 +73,7 @@ module _ (w b : List ℕ) where
   unfolding side_of
   less_side h = simp h
 
-  pub same_side : w ≡ b → side_of w b ≡ Same
+  pub same_side : w ≡ b → side_of w b ≡ Equal
   unfolding side_of
   same_side e = simp (same_not_less e, equal_same w b e)
 
@@ -104,7 +84,7 @@ module _ (w b : List ℕ) where
   -- the word w against the best word b
   pub data Against : Type 0 where
     lower : side_of w b ≡ Less → less w b ≡ true → lesser b w ≡ w → Against
-    level : side_of w b ≡ Same → w ≡ b → lesser b w ≡ b → Against
+    level : side_of w b ≡ Equal → w ≡ b → lesser b w ≡ b → Against
     higher : side_of w b ≡ Greater → less b w ≡ true → lesser b w ≡ b → Against
 
   pub against : Against
@@ -116,42 +96,40 @@ module _ (w b : List ℕ) where
       at (after h) = let l = before_less h in higher (greater_side l) l (lesser_greater l)
 
 -- a start that comes out the same is not left
-pub same_stays : (firm : Bool) (s : Side) → is_same s ≡ true → leaves_at firm s ≡ false
-unfolding is_same leaves_at
+pub same_stays : (firm : Bool) (s : Ordering) → is_eq s ≡ true → leaves_at firm s ≡ false
+unfolding leaves_at
 same_stays firm Less e = absurd (true_not_false e refl)
-same_stays firm Same e = refl
+same_stays firm Equal e = refl
 same_stays firm Greater e = absurd (true_not_false e refl)
 
 -- a start comes out the same exactly when it yields the word
-pub same-yields : (M : Map) (w : List ℕ) (d : ℕ) (s : Side) (b : Bool) → s ≡ side_of (word M d) w → b ≡ is_same s → yields M w d ≡ b
-unfolding is_same
+pub same-yields : (M : Map) (w : List ℕ) (d : ℕ) (s : Ordering) (b : Bool) → s ≡ side_of (word M d) w → b ≡ is_eq s → yields M w d ≡ b
 same-yields M w d s b is told = at (against (word M d) w)
   where
-    tells : (t : Side) → side_of (word M d) w ≡ t → b ≡ is_same t
-    tells t e = told ∙ ap is_same (is ∙ e)
+    tells : (t : Ordering) → side_of (word M d) w ≡ t → b ≡ is_eq t
+    tells t e = told ∙ ap is_eq (is ∙ e)
 
     misses : (yields M w d ≡ true → ⊥) → yields M w d ≡ false
     misses never = false_of_not_true (yields M w d) never
 
-    differs : (t : Side) → side_of (word M d) w ≡ t → (t ≡ Same → ⊥) → yields M w d ≡ false
+    differs : (t : Ordering) → side_of (word M d) w ≡ t → (t ≡ Equal → ⊥) → yields M w d ≡ false
     differs t e other = misses (λ y. other (sym e ∙ same_side (word M d) w (yields_word M w d y)))
 
     at : Against (word M d) w → yields M w d ≡ b
     at (lower e h l) = differs Less e (λ z. let y : ◌≡◌ {A = ℕ} 0 1 = cc in omega arith) ∙ sym (tells Less e)
-    at (level e h l) = word_yields M w d h ∙ sym (tells Same e)
+    at (level e h l) = word_yields M w d h ∙ sym (tells Equal e)
     at (higher e h l) = differs Greater e (λ z. let y : ◌≡◌ {A = ℕ} 0 1 = cc in omega arith) ∙ sym (tells Greater e)
 
 -- and less exactly when its word is
-pub less_told : (w b : List ℕ) (s : Side) (t : Bool) → s ≡ side_of w b → t ≡ is_less s → less w b ≡ t
-unfolding is_less
+pub less_told : (w b : List ℕ) (s : Ordering) (t : Bool) → s ≡ side_of w b → t ≡ is_lt s → less w b ≡ t
 less_told w b s t is told = at (against w b)
   where
-    tells : (u : Side) → side_of w b ≡ u → t ≡ is_less u
-    tells u e = told ∙ ap is_less (is ∙ e)
+    tells : (u : Ordering) → side_of w b ≡ u → t ≡ is_lt u
+    tells u e = told ∙ ap is_lt (is ∙ e)
 
     at : Against w b → less w b ≡ t
     at (lower e h l) = h ∙ sym (tells Less e)
-    at (level e h l) = same_not_less w b h ∙ sym (tells Same e)
+    at (level e h l) = same_not_less w b h ∙ sym (tells Equal e)
     at (higher e h l) = greater_not_less w b h ∙ sym (tells Greater e)
 
 -- the first place of a table

@@ -2,15 +2,12 @@
 -- public contract cites this file.
 --     first_label d back next    the label of β1(d) in the labelling from d
 --     rank_of M d                twice that, and one more where d is 2-sewn: a start of a lesser rank has a lesser word
---     Ranks                      the rank of a start may be asked
 --     LeastRank M r              r is the least rank of all starts
 --     passes_over M up r d       d need not be tried: a dart is over it, which has its word, or its rank is above r
 -- Assumes nothing.
 use Rattle.std.specs.Prelude.{ℕ, ◌+◌, ◌*◌, ◌≤◌, ◌≡◌, Bool, cond, ◌||◌, List, eqb, ltb}
 use Rattle.maps.specs.Least.{nth}
 use Rattle.maps.specs.Map.{Map, IsDart, sew}
-use Rattle.maps.specs.Given.{Given, map_of}
-use Rattle.words.specs.Inside.{Usable}
 
 -- the label of β1(d), which is met after d and β0(d)
 unfoldable pub first_label : ℕ → ℕ → ℕ → ℕ
@@ -19,11 +16,6 @@ first_label d back next = cond (eqb next 0) 0 (cond (eqb next d) 1 (cond (eqb ba
 -- the first number of the word from d, and where there is a β2, whether the second is 0
 unfoldable pub rank_of : Map → ℕ → ℕ
 rank_of M d = 2 * first_label d (sew M 0 d) (sew M 1 d) + cond (eqb (sew M 2 d) 0) 0 1
-
--- the rank of a start may be asked
-pub record Ranks (g : Given) (back : List ℕ) (d : ℕ) : Type 0 where
-  pub usable : Usable g back
-  pub dart : IsDart (map_of g) d
 
 -- no start has a lesser rank, and one has this
 pub record LeastRank (M : Map) (r : ℕ) : Type 0 where

@@ -3,9 +3,9 @@
 --     top_of up d                the top of d's tree
 --     joined up d e              the trees of d and e made one
 --     joined_all k queue lead    the same for what stands at each of the first k places of two queues
---     Forest                     what is over a dart is less than it, or none
---     Climbs, Joins, JoinsAll, Counts
---                                the functions of the forest may be called
+--     Descends up                what is over a dart is less than it, or none
+--     Placed d                   a number that has its place in the arrays
+--     JoinsAll queue lead        what stands at each place of two queues may be joined
 -- Assumes nothing.
 use Rattle.std.specs.Prelude.{ℕ, zero, suc, ◌-◌, ◌≤◌, ◌<◌, ◌≡◌, cond, List, eqb, ltb, length, set}
 use Rattle.maps.specs.Least.{nth}
@@ -36,36 +36,16 @@ joined_all zero queue lead up = up
 joined_all (suc k) queue lead up = joined (joined_all k queue lead up) (nth queue (suc k)) (nth lead (suc k))
 
 -- what is over a dart is less than it, or none
-pub record Forest (up : List ℕ) : Type 0 where
-  pub long : length up ≡ 1020
-  pub lower : (d : ℕ) → 1 ≤ d → nth up d < d
+abbrev pub Descends : List ℕ → Type 0
+Descends up = (d : ℕ) → 1 ≤ d → nth up d < d
 
 -- a number that has its place in the arrays
 pub record Placed (d : ℕ) : Type 0 where
   pub low : 1 ≤ d
   pub high : d ≤ 1020
 
--- the top of d's tree may be sought
-pub record Climbs (up : List ℕ) (d : ℕ) : Type 0 where
-  pub forest : Forest up
-  pub placed : Placed d
-
--- the trees of d and e may be joined
-pub record Joins (up : List ℕ) (d e : ℕ) : Type 0 where
-  pub forest : Forest up
-  pub first : Placed d
-  pub second : Placed e
-
--- and those of what stands at the first m places of two queues
-pub record JoinsAll (up queue lead : List ℕ) (m : ℕ) : Type 0 where
-  pub forest : Forest up
-  pub few : m ≤ 1020
-  pub long_queue : length queue ≡ 1020
-  pub long_lead : length lead ≡ 1020
-  pub first : (k : ℕ) → 1 ≤ k → k ≤ m → Placed (nth queue k)
-  pub second : (k : ℕ) → 1 ≤ k → k ≤ m → Placed (nth lead k)
-
--- the darts of a tree may be counted
-pub record Counts (up : List ℕ) (m : ℕ) : Type 0 where
-  pub forest : Forest up
-  pub few : m ≤ 1020
+-- what stands at each place of two queues may be joined
+pub record JoinsAll (queue lead : List ℕ) : Type 0 where
+  pub as_long : length lead ≡ length queue
+  pub first : (k : ℕ) → 1 ≤ k → k ≤ length queue → Placed (nth queue k)
+  pub second : (k : ℕ) → 1 ≤ k → k ≤ length queue → Placed (nth lead k)

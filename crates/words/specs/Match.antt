@@ -5,22 +5,25 @@
 --     judge_matching        10 where there is no matching
 --     match_answer          number and place
 --     match_output          the output's contents afterwards
+--     shown_mismatch, match_verdict
+--                           what the display shows of an answer of `src/`
 --     MatchesAs             what `match_maps` answers and leaves in its output
 --     match_lines           the lines of the display's table that it can show, in their order
 -- Assumes nothing.
-use Rattle.std.specs.Prelude.{ℕ, ◌≡◌, cond, ◌&&◌, List, [], ◌∷◌, ◌++◌, ◌⊎◌, eqb, ltb, length}
+use Rattle.std.specs.Prelude.{ℕ, ◌+◌, ◌≡◌, cond, ◌&&◌, List, [], ◌∷◌, ◌++◌, ◌⊎◌, eqb, ltb, length, Result, Ok, Err}
 use Rattle.maps.specs.Least.{least}
 use Rattle.maps.specs.Map.{Map}
 use Rattle.maps.specs.Matching.{Matched}
 use Rattle.maps.specs.Given.{Given, map_of}
-use Rattle.maps.specs.Verdict.{Verdict, accepts, unless, in_order, of_second}
+use Rattle.maps.specs.Verdict.{Verdict, accepted, refused, accepts, unless, in_order, of_second}
 use Rattle.maps.specs.Lines.{Line, plain, raised, table_lines, check_lines}
-use Rattle.maps.specs.Answer.{judged_of}
-use Rattle.maps.specs.declared.Judged.{Judged}
+use Rattle.maps.specs.Shown.{shown_refusal}
 use Rattle.maps.specs.declared.Output.TheVariants.{Images}
 use Rattle.labels.specs.Judging.{table_answer, check_answer}
 use Rattle.words.specs.Words.{word, yields, by_labels}
 use Rattle.words.specs.Sign.{over}
+use Rattle.words.specs.declared.matching.Mismatch.{Mismatch}
+use Rattle.words.specs.declared.matching.Mismatch.TheVariants.{First, Second, Unmatched}
 
 -- 01: "the least dart e of the second map whose word equals the first map's word from dart 1"
 unfoldable pub image_of_first : Map → Map → ℕ
@@ -57,9 +60,20 @@ match_output a b out =
     (over (shown (map_of a) (map_of b)) out)
     out
 
+-- what the display shows of a mismatch: "the second, whose refusals are 20 higher"
+abbrev pub shown_mismatch : Mismatch → Verdict
+shown_mismatch (First r) = shown_refusal r
+shown_mismatch (Second r) = refused (20 + (shown_refusal r).number) (shown_refusal r).place
+shown_mismatch Unmatched = refused 10 0
+
+-- and of an answer
+abbrev pub match_verdict : Result Unit Mismatch → Verdict
+match_verdict (Ok _) = accepted
+match_verdict (Err e) = shown_mismatch e
+
 -- the answer r, and `after` in the output that held `before`
-pub record MatchesAs (a b : Given) (before : List ℕ) (r : Judged) (after : List ℕ) : Type 0 where
-  pub answer : r ≡ judged_of (match_answer a b (length before))
+pub record MatchesAs (a b : Given) (before : List ℕ) (r : Result Unit Mismatch) (after : List ℕ) : Type 0 where
+  pub answer : match_verdict r ≡ match_answer a b (length before)
   pub written : after ≡ match_output a b before
 
 -- n or m differ

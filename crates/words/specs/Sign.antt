@@ -1,19 +1,20 @@
 -- What the signature call answers and what it leaves in its output, for every input (01, "Numbers the display can show").
 --     SignatureAnswer     number, place, start and symmetries, as the display shows them
---     signed_of, shown_signed    the answer of `src/` for these numbers, and its numbers
+--     shown_signed        the numbers of an answer of `src/`
 --     signature_answer    the answer, of the map lent and the output's length
 --     signature_output    the output's contents afterwards
 --     over w out          out with w in its first places: nothing beyond is written
 --     SignsAs             what `signature` answers and leaves in its output
 -- Assumes nothing.
-use Rattle.std.specs.Prelude.{ℕ, ◌≡◌, cond, List, ◌++◌, eqb, length, drop}
+use Rattle.std.specs.Prelude.{ℕ, ◌≡◌, cond, List, ◌++◌, length, drop, Result, Ok, Err}
 use Rattle.maps.specs.Given.{Given, map_of}
 use Rattle.maps.specs.Verdict.{accepts}
+use Rattle.maps.specs.Shown.{shown_refusal}
+use Rattle.maps.specs.declared.Refusal.{Refusal}
 use Rattle.maps.specs.declared.Output.TheVariants as output
 use Rattle.labels.specs.Judging.{table_answer}
 use Rattle.words.specs.Words.{signature, start, symmetries}
-use Rattle.words.specs.declared.least_word.Signed.{Signed}
-use Rattle.words.specs.declared.least_word.Signed.TheVariants.{Word, Refused}
+use Rattle.words.specs.declared.found.Signature.{Signature}
 
 pub record SignatureAnswer : Type 0 where
   pub number : ℕ
@@ -21,14 +22,10 @@ pub record SignatureAnswer : Type 0 where
   pub start : ℕ
   pub symmetries : ℕ
 
--- the answer that stands for these numbers: what the contract promises, so that no second answer fits
-unfoldable pub signed_of : SignatureAnswer → Signed
-signed_of a = cond (eqb a.number 0) (Word a.start a.symmetries) (Refused a.number a.place)
-
 -- the numbers that an answer stands for
-unfoldable pub shown_signed : Signed → SignatureAnswer
-shown_signed (Word s k) = record { number = 0; place = 0; start = s; symmetries = k }
-shown_signed (Refused k p) = record { number = k; place = p; start = 0; symmetries = 0 }
+abbrev pub shown_signed : Result Signature Refusal → SignatureAnswer
+shown_signed (Ok s) = record { number = 0; place = 0; start = s.start; symmetries = s.symmetries }
+shown_signed (Err r) = record { number = (shown_refusal r).number; place = (shown_refusal r).place; start = 0; symmetries = 0 }
 
 -- 01: "All other numbers in a refused answer are 0"
 unfoldable pub signature_answer : Given → ℕ → SignatureAnswer
@@ -51,6 +48,6 @@ signature_output g out =
     out
 
 -- the answer r, and `after` in the output that held `before`
-pub record SignsAs (g : Given) (before : List ℕ) (r : Signed) (after : List ℕ) : Type 0 where
-  pub answer : r ≡ signed_of (signature_answer g (length before))
+pub record SignsAs (g : Given) (before : List ℕ) (r : Result Signature Refusal) (after : List ℕ) : Type 0 where
+  pub answer : shown_signed r ≡ signature_answer g (length before)
   pub written : after ≡ signature_output g before

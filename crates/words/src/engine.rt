@@ -1,16 +1,11 @@
 // The run of a start: the labelling from a dart, and its word judged number by number against the word held.
 ghost use Rattle.std.specs.Prelude.{◌≡◌, ◌≤◌, ◌<◌, take, replicate};
-ghost use Rattle.maps.specs.Given.{lent};
+ghost use Rattle.maps.specs.Shown.{given};
 ghost use Rattle.labels.specs.Inside.{Meets};
-ghost use Rattle.words.specs.Inside.{is_less, is_same, Met, Weighs, Weighed, leaves_at, Ready, Forgets, Raced, Tried};
+ghost use Rattle.words.specs.Inside.{Met, Weighs, Weighed, leaves_at, Ready, Forgets, Raced, Tried};
 
-// How a start's word comes out against the word held.
-#[derive(Clone, Copy)]
-pub(crate) enum Side {
-    Less,
-    Same,
-    Greater,
-}
+use crate::map::Map;
+use std::cmp::Ordering;
 
 // The labelling under way: how many labels are given, and the label of what was met last.
 #[derive(Clone, Copy)]
@@ -22,114 +17,78 @@ struct Labelling {
 // A start has run: how its word comes out, and how many labels it has given.
 #[derive(Clone, Copy)]
 struct Course {
-    side: Side,
+    side: Ordering,
     given: usize,
-}
-
-pub(crate) fn wide(x: u16) -> usize
-    ensures { result ≡ x }
-{
-    x as usize
 }
 
 impl Labelling {
     // A dart is met: it gets the next label where it has none. 0 is no dart.
+    // A twin of `labels`' function, which no other crate may call: it asks something of its caller (docs/DECISIONS.md).
     fn meet(self, labels: &mut [u16; 1020], queue: &mut [u16; 1020], e: usize) -> Labelling
         requires { Meets labels.old queue.old self.given e }
         ensures { Met (take self.given queue.old) e labels.new queue.new result }
     {
-        let given = self.given;
         if e == 0 {
-            return Labelling { given, label: 0 };
+            return Labelling { label: 0, ..self };
         }
-        let held = wide(labels[e - 1]);
-        if held != 0 {
-            return Labelling { given, label: held };
+        let label = usize::from(labels[e - 1]);
+        if label != 0 {
+            return Labelling { label, ..self };
         }
-        labels[e - 1] = (given + 1) as u16;
-        queue[given] = e as u16;
+        let next = self.given + 1;
+        labels[e - 1] = next as u16;
+        queue[self.given] = e as u16;
         Labelling {
-            given: given + 1,
-            label: given + 1,
+            given: next,
+            label: next,
         }
-    }
-}
-
-// The start's word is less than the word held.
-pub(crate) fn below(side: Side) -> bool
-    ensures { result ≡ is_less side }
-{
-    match side {
-        Side::Less => true,
-        Side::Same => false,
-        Side::Greater => false,
-    }
-}
-
-// The start's word is the word held.
-pub(crate) fn alike(side: Side) -> bool
-    ensures { result ≡ is_same side }
-{
-    match side {
-        Side::Less => false,
-        Side::Same => true,
-        Side::Greater => false,
     }
 }
 
 // A number of a start that is tied is judged against the one held. Where it is less, it takes its place, unless the word held
 // is firm.
-fn compare(word: &mut [u16; 1020], p: usize, number: usize, firm: bool) -> Side
+#[tactic(auto, unfolding(crate::specs::Inside::side_after))]
+fn compare(word: &mut [u16; 1020], p: usize, number: usize, firm: bool) -> Ordering
     requires { (p < 1020) × (number ≤ 1020) }
-    ensures { Weighed word.old word.new p number Side.Same firm result }
+    ensures { Weighed word.old word.new p number Ordering.Equal firm result }
 {
-    let held = wide(word[p]);
-    if number < held {
-        if firm {
-            return Side::Less;
-        }
+    let side = number.cmp(&usize::from(word[p]));
+    if side.is_lt() && !firm {
         word[p] = number as u16;
-        return Side::Less;
     }
-    if held < number {
-        return Side::Greater;
-    }
-    Side::Same
+    side
 }
 
-// A number of the start's word is judged: a start that is less stays less, and its numbers are kept.
-fn weigh(word: &mut [u16; 1020], p: usize, number: usize, side: Side, firm: bool) -> Side
+// A number of the start's word is judged: a start that is less stays less, and its numbers are kept. One that is greater was left.
+// One test decides here: `side.then(..)` was tried, and the race took a third more instructions.
+#[tactic(auto, unfolding(crate::specs::Inside::side_after, crate::specs::Inside::leaves_at))]
+fn weigh(word: &mut [u16; 1020], p: usize, number: usize, side: Ordering, firm: bool) -> Ordering
     requires { Weighs p number side firm }
     ensures { Weighed word.old word.new p number side firm result }
 {
-    match side {
-        Side::Less => {
-            word[p] = number as u16;
-            Side::Less
-        }
-        Side::Same => compare(word, p, number, firm),
-        Side::Greater => Side::Greater,
+    if side.is_lt() {
+        word[p] = number as u16;
+        return Ordering::Less;
     }
+    compare(word, p, number, firm)
 }
 
 // A start is left at the first number that is greater; and where the word held is firm, at the first that is less.
-fn leaves(side: Side, firm: bool) -> bool
+#[tactic(auto, unfolding(crate::specs::Inside::leaves_at))]
+fn leaves(side: Ordering, firm: bool) -> bool
     ensures { result ≡ leaves_at firm side }
 {
     match side {
-        Side::Less => firm,
-        Side::Same => false,
-        Side::Greater => true,
+        Ordering::Less => firm,
+        Ordering::Equal => false,
+        Ordering::Greater => true,
     }
 }
 
 // The labelling from d, and the first rows of its word judged number by number against the word held, until a number decides or
 // all are judged.
 fn race(
-    n: usize,
-    m: usize,
-    table: &[u16],
-    back: &[u16; 1020],
+    map: Map<'_>,
     labels: &mut [u16; 1020],
     queue: &mut [u16; 1020],
     word: &mut [u16; 1020],
@@ -137,30 +96,28 @@ fn race(
     rows: usize,
     firm: bool,
 ) -> Course
-    requires { Ready (lent n m table.now) back.now labels.old queue.old word.old d rows }
-    ensures { Raced (lent n m table.now) d rows firm word.old labels.new queue.new word.new result }
+    requires ready { Ready (given map.table) d rows }
+    requires blank { labels.old ≡ replicate 1020 0 }
+    ensures { Raced (given map.entry.table) d rows firm word.old labels.new queue.new word.new result }
 {
+    let n = map.table.n;
     labels[d - 1] = 1;
     queue[0] = d as u16;
     let mut labelling = Labelling { given: 1, label: 1 };
-    let mut side = Side::Same;
+    let mut side = Ordering::Equal;
     let mut p = 0;
-    let mut k = 0;
-    'labels: while k < rows {
-        let served = wide(queue[k]);
-        labelling = labelling.meet(labels, queue, wide(back[served - 1]));
+    'labels: for k in 0..rows {
+        let served = usize::from(queue[k]);
+        labelling = labelling.meet(labels, queue, usize::from(map.back[served - 1]));
         let row = (served - 1) * n;
-        let mut i = 0;
-        while i < n {
-            labelling = labelling.meet(labels, queue, wide(table[row + i]));
+        for e in &map.table.numbers[row..row + n] {
+            labelling = labelling.meet(labels, queue, usize::from(*e));
             side = weigh(word, p, labelling.label, side, firm);
             if leaves(side, firm) {
                 break 'labels;
             }
             p += 1;
-            i += 1;
         }
-        k += 1;
     }
     Course {
         side,
@@ -173,32 +130,39 @@ fn forget(labels: &mut [u16; 1020], queue: &[u16; 1020], given: usize)
     requires { Forgets labels.old queue.now given }
     ensures { labels.new ≡ replicate 1020 0 }
 {
-    let mut k = 0;
-    while k < given {
-        labels[wide(queue[k]) - 1] = 0;
-        k += 1;
+    for d in &queue[..given] {
+        labels[usize::from(*d) - 1] = 0;
+    }
+}
+
+// Between two starts no dart has a label.
+#[derive(Drop)]
+pub(crate) struct Blank {
+    pub(crate) labels: [u16; 1020],
+    ghost blank: { labels ≡ replicate 1020 0 },
+}
+
+impl Blank {
+    pub(crate) fn new() -> Blank {
+        Blank { labels: [0; 1020] }
     }
 }
 
 // So many rows of a start are tried against the word held. Where they are all and it is not left, the queue then has its darts in
 // the order labelled.
 pub(crate) fn try_start(
-    n: usize,
-    m: usize,
-    table: &[u16],
-    back: &[u16; 1020],
-    labels: &mut [u16; 1020],
+    map: Map<'_>,
+    blank: &mut Blank,
     queue: &mut [u16; 1020],
     word: &mut [u16; 1020],
     d: usize,
     rows: usize,
     firm: bool,
-) -> Side
-    requires { Ready (lent n m table.now) back.now labels.old queue.old word.old d rows }
-    ensures { Tried (lent n m table.now) d rows firm word.old labels.new queue.new word.new result }
+) -> Ordering
+    requires { Ready (given map.table) d rows }
+    ensures { Tried (given map.entry.table) d rows firm word.old queue.new word.new result }
 {
-    let course = race(n, m, table, back, labels, queue, word, d, rows, firm);
-    let given = course.given;
-    forget(labels, queue, given);
+    let course = race(map, &mut blank.labels, queue, word, d, rows, firm);
+    forget(&mut blank.labels, queue, course.given);
     course.side
 }

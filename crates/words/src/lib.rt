@@ -3,11 +3,14 @@
 
 mod engine;
 mod first_row;
+mod found;
 mod least_word;
+mod map;
 mod matching;
 mod orbits;
 mod own_signature;
 
-pub use least_word::{Signed, signature};
-pub use matching::match_maps;
-pub use own_signature::{Own, own_word};
+pub use found::Signature;
+pub use least_word::signature;
+pub use matching::{Mismatch, match_maps};
+pub use own_signature::own_word;

@@ -1,97 +1,72 @@
 // "Equal to its own signature": each start is compared with the table itself, and left at the first number that differs.
-ghost use Rattle.std.specs.Prelude.{◌≡◌, ◌≤◌, ◌*◌, length, take};
-ghost use Rattle.maps.specs.Given.{lent, map_of};
+ghost use Rattle.std.specs.Prelude.{◌≡◌, ◌≤◌, ◌*◌, length, take, replicate};
+ghost use Rattle.maps.specs.Given.{map_of};
+ghost use Rattle.maps.specs.Shown.{given};
 ghost use Rattle.words.specs.Words.{same, signature};
-ghost use Rattle.words.specs.Own.{own_answer};
-ghost use Rattle.words.specs.Inside.{Leads, HeldAs, Holding};
+ghost use Rattle.words.specs.Sign.{over};
+ghost use Rattle.words.specs.Own.{shown_own, own_answer};
+ghost use Rattle.words.specs.Inside.{Leads};
 
-use crate::engine::{alike, below, try_start};
+use crate::engine::{Blank, try_start};
 use crate::first_row::{passed_over, rank};
-use crate::orbits::join_all;
-use maps::{Judged, Output};
-
-// A table that is accepted is its own signature or another word; or the display's number and place.
-#[derive(Clone, Copy)]
-pub enum Own {
-    Signature,
-    Other,
-    Refused { number: u32, place: usize },
-}
+use crate::map::Map;
+use crate::orbits::Forest;
+use maps::{Output, Refusal, Table};
+use std::cmp::Ordering;
 
 // The numbers of a table, held as a word.
+#[tactic(auto, unfolding(crate::specs::Sign::over))]
 fn hold(table: &[u16], word: &mut [u16; 1020])
-    requires { (length table.now ≤ 1020) × (length word.old ≡ 1020) }
-    ensures { HeldAs table.now word.new }
+    requires { length table.now ≤ 1020 }
+    ensures { word.new ≡ over table.now word.old }
 {
-    let mut i = 0;
-    while i < table.len() {
-        word[i] = table[i];
-        i += 1;
-    }
+    word[..table.len()].copy_from_slice(table);
 }
 
 // The word held, which start 1 yields, is the least: no start is less. A start is passed over that a lesser dart has decided, or
 // that its first row shows to be greater.
-fn is_least(
-    n: usize,
-    m: usize,
-    table: &[u16],
-    back: &[u16; 1020],
-    labels: &mut [u16; 1020],
-    queue: &mut [u16; 1020],
-    lead: &[u16; 1020],
-    word: &mut [u16; 1020],
-) -> bool
-    requires { Leads (lent n m table.now) back.now labels.old queue.old lead.now word.old }
-    ensures { result ≡ same (take (n * m) word.old) (signature (map_of (lent n m table.now))) }
+fn is_least(map: Map<'_>, blank: &mut Blank, lead: &[u16; 1020], word: &mut [u16; 1020]) -> bool
+    requires { Leads (given map.table) lead.now word.old }
+    ensures { result ≡ same (take (map.entry.table.n * map.entry.table.m) word.old) (signature (map_of (given map.entry.table))) }
 {
-    let first = rank(n, m, table, back, 1);
-    let mut up = [0u16; 1020];
-    let mut d = 1;
-    while d < m {
-        d += 1;
-        if passed_over(n, m, table, back, &up, first, d) {
+    let m = map.table.m;
+    let first = rank(map, 1);
+    let mut queue = [0u16; 1020];
+    let mut forest = Forest::new();
+    for d in 2..=m {
+        if passed_over(map, &forest, first, d) {
             continue;
         }
-        let side = try_start(n, m, table, back, labels, queue, word, d, m, true);
-        if below(side) {
-            return false;
-        }
-        if alike(side) {
-            join_all(&mut up, queue, lead, m);
+        match try_start(map, blank, &mut queue, word, d, m, true) {
+            Ordering::Less => return false,
+            Ordering::Equal => forest.join_all(&queue[..m], &lead[..m]),
+            Ordering::Greater => {}
         }
     }
     true
 }
 
 // Whether an accepted table is its own signature. A signature is what start 1 yields, so start 1 leads.
-fn is_own(n: usize, m: usize, table: &[u16], back: &[u16; 1020], labels: &mut [u16; 1020]) -> bool
-    requires { Holding (lent n m table.now) back.now labels.old }
-    ensures { result ≡ same table.now (signature (map_of (lent n m table.now))) }
+fn is_own(map: Map<'_>, blank: &mut Blank) -> bool
+    ensures { result ≡ same map.entry.table.numbers.now (signature (map_of (given map.entry.table))) }
 {
     let mut word = [0u16; 1020];
-    hold(table, &mut word);
+    hold(map.table.numbers, &mut word);
     let mut lead = [0u16; 1020];
-    let first = try_start(n, m, table, back, labels, &mut lead, &mut word, 1, m, true);
-    if alike(first) {
-        let mut queue = [0u16; 1020];
-        return is_least(n, m, table, back, labels, &mut queue, &lead, &mut word);
+    let first = try_start(map, blank, &mut lead, &mut word, 1, map.table.m, true);
+    if first.is_ne() {
+        return false;
     }
-    false
+    is_least(map, blank, &lead, &mut word)
 }
 
 // Whether a dart table is its own signature, for whatever a caller hands in.
-pub fn own_word(n: usize, m: usize, table: &[u16]) -> Own
-    ensures { result ≡ own_answer (lent n m table.now) }
+pub fn own_word(table: Table<'_>) -> Result<bool, Refusal>
+    ensures { shown_own result ≡ own_answer (given table.entry) }
 {
     let mut back = [0u16; 1020];
-    let mut labels = [0u16; 1020];
-    let judged = labels::judge(n, m, table, Output::Nothing, &mut back, &mut labels);
-    if let Judged::Refused { number, place } = judged {
-        return Own::Refused { number, place };
-    }
-    if is_own(n, m, table, &back, &mut labels) {
-        return Own::Signature;
-    }
-    Own::Other
+    let mut blank = Blank::new();
+    labels::judge(table, Output::Nothing, &mut back, &mut blank.labels)?;
+    let map = Map { table, back: &back };
+    Ok(is_own(map, &mut blank))
 }

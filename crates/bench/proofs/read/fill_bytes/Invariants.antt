@@ -1,6 +1,0 @@
--- The number that may stand there again fits its place.
-use Rattle.std.proofs.Common.{◌≤◌}
-use Rattle.bench.proofs.read.fill_bytes.Given as goal
-
-abbrev pub invariant-loop-x : goal.invariant-loop-x
-invariant-loop-x l = l.read.value ≤ 255

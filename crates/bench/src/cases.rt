@@ -19,12 +19,15 @@ pub struct Room {
     pub bytes: [u8; BYTES],
 }
 
+// The cases are alike, and stay a function each: they differ in the parts that they read and in the call, which is what each says.
+// The output, the line and the room stay three parameters: a struct of them would be taken apart in each case.
+
 // `check N M TABLE`.
 fn check(out: &mut impl Write, mut line: Line<'_>, room: &mut Room) -> Option<io::Result<()>> {
     let table = line.table(&mut room.table)?;
     line.end()?;
     let checked = labels::check(table).map(|()| []);
-    Some(print::answer(out, checked))
+    Some(print::numbers_line(out, checked))
 }
 
 // `sign N M TABLE OUTPUT`.
@@ -33,7 +36,7 @@ fn sign(out: &mut impl Write, mut line: Line<'_>, room: &mut Room) -> Option<io:
     let output = line.list(&mut room.list)?;
     line.end()?;
     let signed = words::signature(table, output).map(|word| [word.start, word.symmetries]);
-    Some(print::answer_and_list(out, signed, output))
+    Some(print::numbers_and_list_line(out, signed, output))
 }
 
 // `match N M TABLE N2 M2 TABLE2 OUTPUT`.
@@ -43,7 +46,7 @@ fn match_maps(out: &mut impl Write, mut line: Line<'_>, room: &mut Room) -> Opti
     let output = line.list(&mut room.list)?;
     line.end()?;
     let matched = words::match_maps(first, second, output).map(|()| []);
-    Some(print::answer_and_list(out, matched, output))
+    Some(print::numbers_and_list_line(out, matched, output))
 }
 
 // `judge N M TABLE N2 M2 TABLE2 LIST`.
@@ -53,7 +56,7 @@ fn judge(out: &mut impl Write, mut line: Line<'_>, room: &mut Room) -> Option<io
     let list = line.list(&mut room.list)?;
     line.end()?;
     let judged = matches::judge_list(first, second, list).map(|()| []);
-    Some(print::answer(out, judged))
+    Some(print::numbers_line(out, judged))
 }
 
 // `drawer COUNT BYTES`.
@@ -65,7 +68,7 @@ fn check_drawer(
     let records = line.records(&mut room.bytes)?;
     line.end()?;
     let checked = drawer::check_drawer(records).map(|()| []);
-    Some(print::answer(out, checked))
+    Some(print::numbers_line(out, checked))
 }
 
 // `find N M TABLE COUNT BYTES`.
@@ -75,7 +78,7 @@ fn find(out: &mut impl Write, mut line: Line<'_>, room: &mut Room) -> Option<io:
     line.end()?;
     // The cast stays: `usize` is not `From<u32>`.
     let found = drawer::search_drawer(table, records).map(|found| [found.die as usize, found.at]);
-    Some(print::answer(out, found))
+    Some(print::numbers_line(out, found))
 }
 
 // `record N M TABLE COUNT BYTES`.
@@ -83,7 +86,7 @@ fn record(out: &mut impl Write, mut line: Line<'_>, room: &mut Room) -> Option<i
     let table = line.table(&mut room.table)?;
     let records = line.records(&mut room.bytes)?;
     line.end()?;
-    Some(print::last_list(out, drawer::found(table, records)))
+    Some(print::list_line(out, drawer::found(table, records)))
 }
 
 // `add DIE N M TABLE COUNT BYTES`.
@@ -94,7 +97,7 @@ fn add(out: &mut impl Write, mut line: Line<'_>, room: &mut Room) -> Option<io::
     let bytes = line.list(&mut room.bytes)?;
     line.end()?;
     let filed = drawer::file_layout(die, table, count, bytes).map(|count| [count]);
-    Some(print::answer_and_list(out, filed, bytes))
+    Some(print::numbers_and_list_line(out, filed, bytes))
 }
 
 pub(crate) fn answer(out: &mut impl Write, line: &[u8], room: &mut Room) -> Option<io::Result<()>> {

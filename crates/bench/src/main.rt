@@ -86,6 +86,7 @@ fn take_bytes(
 // Nothing says that the input ends, so the readings are counted up to a number that no run uses up.
 fn take_all(out: &mut impl Write, input: &mut impl Read, room: &mut Room) -> io::Result<()> {
     let mut under_way = UnderWay::new();
+    // What one reading gives: a fixed buffer, since the program allocates nothing.
     let mut bytes = [0u8; 65536];
     for _ in 0..u64::MAX {
         let count = input.read(&mut bytes)?;

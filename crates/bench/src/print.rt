@@ -27,7 +27,7 @@ fn numbers<E: Shown + Drop, const K: usize>(
 
 // A list, which is its length and its numbers, and the line's end. Of four or more equal numbers in a row, one is printed, and how
 // many they are.
-pub(crate) fn last_list<T: Display + PartialEq>(
+pub(crate) fn list_line<T: Display + PartialEq>(
     out: &mut impl Write,
     list: &[T],
 ) -> io::Result<()> {
@@ -47,7 +47,7 @@ pub(crate) fn last_list<T: Display + PartialEq>(
 }
 
 // The line of an answer that is numbers alone.
-pub(crate) fn answer<E: Shown + Drop, const K: usize>(
+pub(crate) fn numbers_line<E: Shown + Drop, const K: usize>(
     out: &mut impl Write,
     answer: Result<[usize; K], E>,
 ) -> io::Result<()> {
@@ -56,12 +56,12 @@ pub(crate) fn answer<E: Shown + Drop, const K: usize>(
 }
 
 // The line of an answer that is numbers, and beside them what a lent buffer holds then.
-pub(crate) fn answer_and_list<E: Shown + Drop, T: Display + PartialEq, const K: usize>(
+pub(crate) fn numbers_and_list_line<E: Shown + Drop, T: Display + PartialEq, const K: usize>(
     out: &mut impl Write,
     answer: Result<[usize; K], E>,
     left: &[T],
 ) -> io::Result<()> {
     numbers(out, answer)?;
     out.write_all(b" ")?;
-    last_list(out, left)
+    list_line(out, left)
 }

@@ -70,6 +70,7 @@ impl<'a> Line<'a> {
         let length = self.number()?;
         let list = room.get_mut(..length)?;
         let mut open = &mut *list;
+        // No `for`: a run says how far the list is filled next.
         while !open.is_empty() {
             let value = T::try_from(self.number()?).ok()?;
             let times = self.times()?;

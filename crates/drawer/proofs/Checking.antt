@@ -1,20 +1,25 @@
 -- The laws behind the drawer check's functions: the records inside the bytes, and a bad record.
 --     count_over, count_inside
 --                           13, by the count and the bytes
+--     chunk_at, record_in_chunks
+--                           a record as one of the chunks of its size
 --     bad_fault, bad_die, bad_layout, not_bad
 --                           whether record k is bad, by its reading and the records before it
 --     first_laws, count_laws, bad_laws
 --                           these, and those of a search from 1 upwards, for the functions of `src/`
 -- Assumes nothing.
-use Prim.Native.Nat.{ℕ, ◌-◌, ◌*◌, ◌≤◌, ◌<◌}
+use Prim.Native.Nat.{ℕ, zero, suc, ◌+◌, ◌-◌, ◌*◌, ◌≤◌, ◌<◌}
 use mathlib.Core.Path.{◌≡◌, refl, sym, ap, ◌∙◌}
 use mathlib.Core.Bool.{Bool, true, false, ◌||◌}
-use mathlib.Core.List.{List}
+use mathlib.Core.List.{List, []}
 use mathlib.Core.Logic.{◌⊎◌}
 use native.Mathlib.Omega.{arith}
+use native.Mathlib.Nat.{suc-mul, add_comm}
 use borrow.Author.Tests.{le-leb}
-use lib.ListN.{length}
+use lib.ListN.{length, get_or, take, drop}
 use Rattle.std.specs.Prelude.{None, Some, Ok, Err}
+use Rattle.std.specs.Simd.{first_chunks}
+use Rattle.std.proofs.lemmas.List.{drop-drop, get_or-take}
 use Rattle.maps.specs.Least.{least, found_at}
 use Rattle.maps.specs.Verdict.{accepted, refused}
 use Rattle.maps.proofs.Least.{least_found, least_none, passes_some, misses_some, search_hit, search_over, some_is, none_is}
@@ -35,6 +40,21 @@ module _ (count : ℕ) (bytes : List ℕ) where
   pub count_inside : count ≤ 1024 → count * 2048 ≤ length bytes → judge_count (drawer count bytes) ≡ accepted
   unfolding judge_count most_records record_size
   count_inside few inside = unless_passed _ 13 0 (simp (le-leb count 1024 few, le-leb (count * 2048) (length bytes) inside))
+
+-- a chunk of n elements
+chunk_at : {X : Type 0} (n k i : ℕ) (xs : List X) → i < k → get_or (first_chunks n k xs) i [] ≡ take n (drop (i * n) xs)
+chunk_at n zero i xs h = absurd (omega arith)
+chunk_at n (suc k) zero xs h = let none : 0 * n ≡ 0 = omega arith in rw none refl
+chunk_at n (suc k) (suc i) xs h =
+    let past : n + i * n ≡ suc i * n = add_comm n (i * n) ∙ sym (suc-mul i n) in
+    chunk_at n k i (drop n xs) (omega arith) ∙ ap (take n) (drop-drop (i * n) n xs ∙ ap (λ (j : ℕ). drop j xs) past)
+
+-- the first records of the chunks
+pub record_in_chunks : (count k i : ℕ) (bytes : List ℕ) → count ≤ k → i < count → get_or (take count (first_chunks 2048 k bytes)) i [] ≡ record_at bytes (i + 1)
+unfolding record_at record_size
+record_in_chunks count k i bytes fits low =
+    let same : i + 1 - 1 ≡ i = omega arith in
+    get_or-take count (first_chunks 2048 k bytes) i [] low ∙ chunk_at 2048 k i bytes (omega arith) ∙ rw same refl
 
 either_second : (a b : Bool) → b ≡ true → (a || b) ≡ true
 either_second true b e = refl

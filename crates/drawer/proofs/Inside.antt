@@ -7,7 +7,7 @@
 --     header_dimension, .. header_whole  a header, by the tests that led to it
 --     header_known                     what a header with its fields says of its record: `Known`
 --     same_bytes                       numbers are the same where their bytes are
---     table_is, copied_table           the table of a record, as its bytes say and as it was copied
+--     table_is                         the table of a record, as its bytes say
 --     table_passed, table_refused      the check's answer decides the reading of a table
 --     record_signed, record_other, record_refused
 --                                      and the answer on the word that of a record
@@ -23,7 +23,7 @@ use native.Mathlib.Numerals.{add-one}
 use borrow.Author.Tests.{eq-eqb, ne_eqb}
 use lib.Dec.{eqb, leb}
 use lib.Pointwise.{pointwise}
-use lib.Seq.{drop-cons, drop-drop, set_at, take_at, take_all, append_snoc}
+use lib.Seq.{drop-cons, drop-drop, set_at, take_all, append_snoc}
 use lib.ListN.{length, get_or, set, take, drop, drop_of_length-le, length-drop}
 use Rattle.std.specs.Prelude.{Result, Ok, Err, min, ◌⊎◌}
 use Rattle.std.proofs.Common.{inl, inr}
@@ -230,12 +230,6 @@ pub table_is : (t : List ℕ) (k : ℕ) → k ≡ (filed_in t).layout.n * (filed
 unfolding filed_in
 table_is t k e = sym (ap (λ (j : ℕ). numbers j (drop 8 t)) e)
 
--- and the front of an array that it was copied to
-pub copied_table : (r word rest : List ℕ) (size : ℕ) → word ≡ numbers size (drop 8 r) ++ rest → size ≡ (filed_in r).layout.n * (filed_in r).layout.m →
-    take size word ≡ (filed_in r).layout.table
-copied_table r word rest size e is =
-    ap (take size) e ∙ take_at (numbers size (drop 8 r)) rest size (length_numbers size (drop 8 r)) ∙ sym (table_is r size is)
-
 accepted_accepts : accepts accepted ≡ true
 unfolding accepts accepted
 accepted_accepts = refl
@@ -249,23 +243,21 @@ unfolding own_by
 own_verdict v true s = refl
 own_verdict v false s = refl
 
--- a header that has its fields, and the word that was copied: v is the map's verdict
-module _ (r : List ℕ) (h : Result Layout RecordFault) (is_h : h ≡ header_of r) (l : Layout) (is : h ≡ Ok l) (word rest : List ℕ) (copied : word ≡ numbers (l.n * l.m) (drop 8 r) ++ rest) where
+-- a header that has its fields, and the table that was lent: v is the map's verdict
+module _ (r : List ℕ) (h : Result Layout RecordFault) (is_h : h ≡ header_of r) (l : Layout) (is : h ≡ Ok l) (taken : Given) (holds : taken ≡ lent l.n l.m (numbers (l.n * l.m) (drop 8 r))) where
   abbrev layout : Given
   layout = (filed_in r).layout
 
   abbrev v : Verdict
   v = judge_map (map_of layout)
 
-  abbrev taken : Given
-  taken = lent l.n l.m (take (l.n * l.m) word)
-
   says : Known r l
   says = header_known r l (sym is ∙ is_h)
 
   -- the map that was lent is that of the record
   taken_is : taken ≡ layout
-  taken_is = λ i. lent (says.is_n i) (says.is_m i) (copied_table r word rest (l.n * l.m) copied (ap₂ (λ (a b : ℕ). a * b) says.is_n says.is_m) i)
+  unfolding filed_in
+  taken_is = holds ∙ λ i. lent (says.is_n i) (says.is_m i) (numbers (says.is_n i * says.is_m i) (drop 8 r))
 
   check_is : check_answer taken ≡ v
   check_is = ap check_answer taken_is ∙ shaped_map layout (record { bounds = rw (says.is_n, says.is_m) at says.bounds; long = length_table r })

@@ -9,7 +9,8 @@ use crate::fields::read_record;
 use crate::records::{Held, Records};
 use crate::refusal::DrawerRefusal;
 
-// Record k is bad, by itself or because an earlier record has its die or its layout.
+// Record k is bad, by itself or because an earlier record has its die or its layout. k is bounded as in
+// `Held::record`.
 #[tactic(auto, using(crate::proofs::Checking::bad_laws))]
 fn is_bad(held: Held<'_>, k: usize) -> bool
     requires low { 1 ≤ k }
@@ -17,6 +18,7 @@ fn is_bad(held: Held<'_>, k: usize) -> bool
     ensures { result ≡ bad_record held.entry.records.bytes.now k }
 {
     let filed = held.record(k);
+    // Document 01's form.
     let Ok(layout) = read_record(filed) else {
         return true;
     };

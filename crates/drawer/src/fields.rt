@@ -1,5 +1,7 @@
 // One record of 2,048 bytes: its fields as they stand there, what reading it finds, and whether two records say the same.
 ghost use Rattle.std.specs.Prelude.{◌≡◌, ◌++◌, ◌+◌, ◌*◌, ◌≤◌, length, take, drop, IfOk};
+ghost use Rattle.maps.specs.Given.{lent};
+ghost use Rattle.maps.specs.Shown.{given};
 ghost use Rattle.drawer.specs.Record.{from_bytes, numbers, all_zero, filed_in, zero_byte_in, same_layout, read_record};
 ghost use Rattle.drawer.specs.Answers.{reading_of};
 ghost use Rattle.drawer.specs.Inside.{header_of};
@@ -7,8 +9,11 @@ ghost use Rattle.drawer.specs.declared.fields.RecordFault.TheVariants.{NoMap};
 
 use maps::{Refusal, Table};
 
+// How many bytes a record has.
+pub(crate) const RECORD_SIZE: usize = 2048;
+
 // The bytes of a record.
-pub(crate) type Record = [u8; 2048];
+pub(crate) type Record = [u8; RECORD_SIZE];
 
 // A filed layout, whose word stays where it stands.
 #[derive(Clone, Copy, Debug, PartialEq, Eq)]
@@ -43,7 +48,7 @@ impl From<Refusal> for RecordFault {
 // The number that 2 bytes say, little end first.
 #[tactic(auto, unfolding(crate::specs::Record::from_bytes))]
 fn number_at(filed: &Record, at: usize) -> u16
-    requires { at + 2 ≤ 2048 }
+    requires { at + 2 ≤ RECORD_SIZE }
     ensures { result ≡ from_bytes (take 2 (drop at filed.now)) }
 {
     u16::from_le_bytes([filed[at], filed[at + 1]])
@@ -78,7 +83,7 @@ fn zero_byte_of(filed: &Record) -> u8
     filed[5]
 }
 
-// No byte is other than 0. No branch is taken at a byte, so that the machine looks at several at a time.
+// No byte is other than 0. No branch is taken at a byte, as `iter().all` takes one, so that the machine looks at several at a time.
 #[tactic(auto, using(crate::proofs::Inside::all_zero_here, crate::proofs::Inside::all_zero_past))]
 fn all_zero(bytes: &[u8]) -> bool
     ensures { result ≡ all_zero bytes.now }
@@ -102,7 +107,8 @@ pub(crate) fn read_word(filed: &Record, size: usize, word: &mut [u16])
     }
 }
 
-// The reading of all but the word. n and m come first, since they say where the filling starts.
+// The reading of all but the word. n and m come first, since they say where the filling starts. `small` is a clause,
+// since a `Layout` with that fact in its type could not be what `header_of` makes of any bytes.
 #[tactic(auto, using(crate::proofs::Inside::header_dimension, crate::proofs::Inside::header_size, crate::proofs::Inside::header_die, crate::proofs::Inside::header_byte, crate::proofs::Inside::header_filling, crate::proofs::Inside::header_whole, crate::proofs::Inside::to_the_end))]
 pub(crate) fn read_header(filed: &Record) -> Result<Layout, RecordFault>
     ensures header { result ≡ header_of filed.now }
@@ -129,23 +135,37 @@ pub(crate) fn read_header(filed: &Record) -> Result<Layout, RecordFault>
     Ok(Layout { die, n, m })
 }
 
+// The table of a layout that a record holds: the word is copied to a list, and the table is the front of it.
+pub(crate) fn filed_table<'a>(
+    filed: &Record,
+    layout: Layout,
+    word: &'a mut [u16; 1020],
+) -> Table<'a>
+    requires { layout.n * layout.m ≤ 1020 }
+    ensures { given result ≡ lent layout.n layout.m (numbers (layout.n * layout.m) (drop 8 filed.now)) }
+{
+    let Layout { n, m, .. } = layout;
+    read_word(filed, n * m, word);
+    Table {
+        n,
+        m,
+        numbers: &word[..n * m],
+    }
+}
+
 // The reading of a record of a drawer, whose word must be its own signature.
 #[tactic(auto, using(crate::proofs::Inside::record_fault))]
 pub(crate) fn read_record(filed: &Record) -> Result<Layout, RecordFault>
     ensures { reading_of result filed.now ≡ read_record filed.now }
 {
+    // Document 01's form: a fault goes straight back.
     let header = read_header(filed);
     let Ok(layout) = header else {
         return header;
     };
-    let Layout { n, m, .. } = layout;
+    // Document 01: fixed memory, no heap.
     let mut word = [0; 1020];
-    read_word(filed, n * m, &mut word);
-    if words::own_word(Table {
-        n,
-        m,
-        numbers: &word[..n * m],
-    })? {
+    if words::own_word(filed_table(filed, layout, &mut word))? {
         Ok(layout)
     } else {
         Err(RecordFault::OtherWord)
@@ -163,6 +183,6 @@ pub(crate) fn same_layout(first: &Record, second: &Record) -> bool
         return false;
     }
     let size = usize::from(n) * usize::from(m);
-    let end = (8 + 2 * size).min(2048);
+    let end = (8 + 2 * size).min(RECORD_SIZE);
     first[8..end] == second[8..end]
 }

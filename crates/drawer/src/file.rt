@@ -8,8 +8,8 @@ ghost use Rattle.drawer.specs.Shown.{lent_drawer, shown_drawer};
 ghost use Rattle.drawer.specs.Answers.{FilesAs};
 
 use crate::check::good_drawer;
-use crate::fields::Record;
-use crate::records::Records;
+use crate::fields::{RECORD_SIZE, Record};
+use crate::records::{MOST_RECORDS, Records};
 use crate::refusal::DrawerRefusal;
 use crate::write::make_record;
 use maps::Table;
@@ -18,8 +18,8 @@ use maps::Table;
 #[tactic(auto, using(crate::proofs::Calls::next_laws))]
 fn judge_next(die: u32, filed: &Record, drawer: Records<'_>) -> Result<(), DrawerRefusal>
     ensures { MatchResult result
-        (λ _. (drawer.entry.count < 1024)
-        × ((drawer.entry.count + 1) * 2048 ≤ length drawer.entry.bytes.now)
+        (λ _. (drawer.entry.count < MOST_RECORDS)
+        × ((drawer.entry.count + 1) * RECORD_SIZE ≤ length drawer.entry.bytes.now)
         × (accepted ≡ in_order (judge_next die (filed_in filed.now).layout (lent_drawer drawer.entry))))
         (λ refusal. shown_drawer refusal ≡ in_order (judge_next die (filed_in filed.now).layout (lent_drawer drawer.entry))) }
 {
@@ -33,7 +33,7 @@ fn judge_next(die: u32, filed: &Record, drawer: Records<'_>) -> Result<(), Drawe
     if let Some(k) = held.with_layout(filed) {
         return Err(DrawerRefusal::Layout(k));
     }
-    if drawer.count == 1024 || drawer.bytes.len() < (drawer.count + 1) * 2048 {
+    if drawer.count == MOST_RECORDS || drawer.bytes.len() < (drawer.count + 1) * RECORD_SIZE {
         return Err(DrawerRefusal::Full);
     }
     Ok(())
@@ -51,7 +51,7 @@ pub fn file_layout(
 {
     let filed = make_record(die, table)?;
     judge_next(die, &filed, Records { count, bytes })?;
-    let from = count * 2048;
-    bytes[from..from + 2048].copy_from_slice(&filed);
+    let from = count * RECORD_SIZE;
+    bytes[from..from + RECORD_SIZE].copy_from_slice(&filed);
     Ok(count + 1)
 }

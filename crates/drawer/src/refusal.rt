@@ -7,6 +7,7 @@ use maps::{Refusal, Shown};
 
 // The map's own refusal, 1 to 9, or 13 to 18: a count or bytes that do not fit, a bad record, no record with the layout, the die
 // number 0 (at 0) or filed already (at its record), a layout filed already, no room for one record more.
+// A variant of its own for the die number 0 would show what `Die(0)` shows, and then a second answer would fit.
 #[derive(Clone, Copy, Debug, PartialEq, Eq)]
 pub enum DrawerRefusal {
     Map(Refusal),

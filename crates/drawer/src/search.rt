@@ -44,7 +44,8 @@ pub fn search_drawer(table: Table<'_>, drawer: Records<'_>) -> Result<Found, Dra
     })
 }
 
-// The bytes of the record that search names, as that part of the drawer; none where it refuses.
+// The bytes of the record that search names, as that part of the drawer; none where it refuses: no `Option`, since
+// `own_bytes`, which is promised, is empty there.
 #[tactic(auto, using(crate::proofs::Calls::record_high))]
 pub fn found<'a>(table: Table<'_>, drawer: Records<'a>) -> &'a [u8]
     ensures { result.now ≡ own_bytes (given table.entry) (lent_drawer drawer.entry) }

@@ -3,8 +3,7 @@ ghost use Rattle.std.specs.Prelude.{◌≡◌, ◌≢◌, ◌*◌, ◌≤◌, le
 ghost use Rattle.drawer.specs.Record.{record_size, read_table};
 ghost use Rattle.drawer.specs.Answers.{reading_of, ReadsAs};
 
-use crate::fields::{Layout, Record, RecordFault, die_of, read_header, read_word};
-use maps::Table;
+use crate::fields::{Layout, Record, RecordFault, die_of, filed_table, read_header, read_word};
 
 // The die number as it stands, and the reading.
 #[derive(Clone, Copy, Debug, PartialEq, Eq)]
@@ -29,18 +28,14 @@ fn judge_table(filed: &Record) -> Result<Layout, RecordFault>
     ensures reads { reading_of result filed.now ≡ read_table filed.now }
     ensures small { IfOk result (λ l. l.n * l.m ≤ 1020) }
 {
+    // Document 01's form: a fault goes straight back.
     let header = read_header(filed);
     let Ok(layout) = header else {
         return header;
     };
-    let Layout { n, m, .. } = layout;
+    // Document 01: fixed memory, no heap.
     let mut word = [0; 1020];
-    read_word(filed, n * m, &mut word);
-    labels::check(Table {
-        n,
-        m,
-        numbers: &word[..n * m],
-    })?;
+    labels::check(filed_table(filed, layout, &mut word))?;
     Ok(layout)
 }
 

@@ -7,7 +7,7 @@ ghost use Rattle.labels.specs.Judging.{check_answer};
 ghost use Rattle.drawer.specs.Record.{record_bytes};
 ghost use Rattle.drawer.specs.Drawer.{layout_of};
 
-use crate::fields::Record;
+use crate::fields::{RECORD_SIZE, Record};
 use maps::{Refusal, Table};
 
 // The bytes before the word are put.
@@ -31,7 +31,8 @@ fn record_of(die: u32, layout: Table<'_>) -> Record
     let [a, b, c, d] = die.to_le_bytes();
     // The bounds of a map let both casts be: n is 1 to 4, and m at most 1,020.
     let [low, high] = (m as u16).to_le_bytes();
-    let mut filed = [0; 2048];
+    // Document 01: fixed memory, no heap.
+    let mut filed = [0; RECORD_SIZE];
     put_fields(&mut filed, &[a, b, c, d, n as u8, 0, low, high]);
     // Byte by byte: `copy_from_slice` of two bytes takes twenty times as long, since the loop is no longer one of vectors.
     for (i, x) in word.iter().enumerate() {
@@ -50,6 +51,7 @@ pub(crate) fn make_record(die: u32, table: Table<'_>) -> Result<Record, Refusal>
         (λ refusal. shown_refusal refusal ≡ check_answer (given table.entry)) }
 {
     let Table { n, m, .. } = table;
+    // Document 01: fixed memory, no heap.
     let mut word = [0; 1020];
     words::signature(table, &mut word)?;
     Ok(record_of(

@@ -9,6 +9,7 @@
 --     nine, passed_..                        what `judge` is proved by: where 1 to 8 refuse, and where they pass
 --     table_whole, check_whole, sewing_whole
 --                                            a table whose verdict accepts is accepted, at place 0
+--     table_answered, check_answered         some answer shows each verdict on a table
 --     shaped_map                             of a table in shape, 5 to 9 are left
 --     judges_only, check_only                no second answer fits
 -- Assumes nothing.
@@ -30,7 +31,7 @@ use Rattle.maps.specs.Given.{Given, map_of, Shaped}
 use Rattle.maps.specs.Verdict.{Verdict, accepted, refused, accepts, unless, at_least, in_order}
 use Rattle.maps.specs.Lines.{Silent, Shows, shape_lines, room_lines, entry_lines, reach_line, map_lines, table_lines}
 use Rattle.maps.specs.Rules.{judge_shape, judge_output, judge_entries, judge_sewing}
-use Rattle.maps.specs.Shown.{verdict_of}
+use Rattle.maps.specs.Shown.{shown_refusal, verdict_of}
 use Rattle.maps.specs.Answer.{backs_of, JudgedAs}
 use Rattle.maps.specs.declared.Refusal.{Refusal}
 use Rattle.maps.specs.declared.Refusal.TheVariants.{NotReached}
@@ -38,7 +39,7 @@ use Rattle.maps.specs.declared.Output.{Output}
 use Rattle.maps.proofs.Least.{Tested, passes, fails, tested, Found, least_none, none_least, least_found, least_is, some_is, none_is}
 use Rattle.maps.proofs.Verdict.{in_order_passed, in_order_refused, in_order_first, in_order_one, in_order-accepts, at_least-some}
 use Rattle.maps.proofs.Lines.{Clear, clear, past, shows_clear, clear_shows, clear_join, clear_split, shows_then, shows_last, shows_least, shape_shows, shape_clear, room_shows, entries_shows, entries_clear, sewing_clear}
-use Rattle.maps.proofs.Answer.{judged_only, verdict_only, refusal_refuses, ok_accepts, as_refused}
+use Rattle.maps.proofs.Answer.{Answered, all_done, one_more, answered_in_order, answered_at_least, shape_answered, output_answered, entries_answered, judged_only, verdict_only, refusal_refuses, ok_accepts, as_refused}
 use Rattle.labels.specs.Queue.{label_in, labelling}
 use Rattle.labels.specs.Judging.{not_reached, judge_map, table_answer, check_answer, Judges}
 use Rattle.labels.proofs.Reached.{labelled_reached, reached_labelled}
@@ -235,6 +236,19 @@ module _ (o : Output) {g : Given} {r : Result Unit Refusal} {back : List ℕ} (j
   passed_refused {p} found blank =
       let is = some_is found in
       record { answer = as_refused (NotReached p) (nine_refused o g passed_accepts p (sym is.0) (λ z. omega (arith, is.1))) refl; blank = blank }
+
+-- some answer shows each verdict on a table
+pub table_answered : (o : Output) (g : Given) → Answered shown_refusal (table_answer o g)
+unfolding table_answer judge_map
+table_answered o g =
+    let M = map_of g in
+    let nine_answered = answered_at_least 9 (not_reached M) (NotReached (not_reached M)) refl in
+    let map_answered = answered_in_order (one_more (entries_answered M) (one_more nine_answered all_done)) in
+    answered_in_order (one_more (shape_answered g) (one_more (output_answered o g.n g.m) (one_more map_answered all_done)))
+
+pub check_answered : (g : Given) → Answered shown_refusal (check_answer g)
+unfolding check_answer
+check_answered g = table_answered _ g
 
 -- of a table in shape, 5 to 9 are left to the plain check
 pub shaped_map : (g : Given) → Shaped g → check_answer g ≡ judge_map (map_of g)

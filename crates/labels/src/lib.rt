@@ -1,4 +1,5 @@
-// The labelling of a map, the darts that it reaches, and the plain check of a dart table.
+// The labelling of a map, the darts that it reaches, and the plain check of a dart table. Arrays of 1,020 numbers are locals, or lent:
+// document 01 wants fixed memory.
 #![tactic(auto)]
 
 ghost use Rattle.std.specs.Prelude.{◌≡◌, ◌≤◌, take, replicate};
@@ -14,7 +15,8 @@ ghost use Rattle.labels.specs.Inside.{Labels, Holds, Meets, Serves, IsRow, not_l
 
 use maps::{Output, Refusal, Table};
 
-// A table that rules 1 to 8 have passed, with β0 of each dart.
+// A table that rules 1 to 8 have passed, with β0 of each dart. `words` has the like of what 1 to 9 have passed: no public function may ask
+// for either, so each crate has its own, and reads rows by itself.
 #[derive(Clone, Copy)]
 struct SewnTable<'a> {
     table: Table<'a>,
@@ -70,6 +72,7 @@ impl Labelling {
     }
 }
 
+// A dart stays a number, which `requires` bounds: a type of it would carry the map to each place of the queue.
 impl<'a> SewnTable<'a> {
     // β0 of a dart.
     fn before(self, d: u16) -> u16
@@ -117,7 +120,7 @@ impl<'a> SewnTable<'a> {
     }
 }
 
-// The least dart that has no label.
+// The least dart that has no label. `position` was tried, and the proof did not close: it says too little of the labels passed over.
 fn not_labelled(labels: &[u16]) -> Option<usize>
     ensures { result ≡ found_at (not_labelled labels.now) }
 {

@@ -1,5 +1,6 @@
 -- How far the input is read, and what each part of the program makes of it.
 --     all_read p       how many bytes were read
+--     Counted p        one more record can be counted
 --     Added p k q      q is k bytes further than p
 --     Stepped p s      what one reading from p may give
 --     Status s         the two statuses with which the program ends
@@ -11,6 +12,10 @@ use Rattle.layouts.specs.declared.fault.Fault.{Fault}
 -- whole records, and the bytes of the next
 abbrev pub all_read : Progress → ℕ
 all_read p = p.records * 2048 + p.bytes
+
+-- below 2⁶⁴ - 1, the last number of a `usize`
+abbrev pub Counted : Progress → Type 0
+Counted p = p.records < 18446744073709551615
 
 -- the equation and the bound leave no second q
 pub record Added (p : Progress) (k : ℕ) (q : Progress) : Type 0 where

@@ -6,6 +6,8 @@ use std::fmt;
 pub enum Fault {
     Unread,
     Unwritten,
+    // Never printed: the program ends without a word.
+    Endless,
 }
 
 impl fmt::Display for Fault {
@@ -13,6 +15,7 @@ impl fmt::Display for Fault {
         match self {
             Fault::Unread => write!(f, "layouts: the input cannot be read"),
             Fault::Unwritten => write!(f, "layouts: a line cannot be written"),
+            Fault::Endless => write!(f, "layouts: the input does not end"),
         }
     }
 }

@@ -1,8 +1,8 @@
 // How far the input is read.
 ghost use Rattle.std.specs.Prelude.{◌≡◌, ◌+◌, ◌≤◌, ◌<◌};
 
-// So many whole records, and so many bytes of the next, which lacks at least one. The buffer with those bytes is not
-// in here, since `Added` and `Whole` speak of the counts alone.
+// So many whole records, and so many bytes of the next, which lacks at least one. The buffer with those bytes stays beside it: the
+// theorem `Whole`, which may not change, is of a `Progress` of the counts alone.
 #[derive(Clone, Copy)]
 pub struct Progress {
     pub records: usize,
@@ -11,7 +11,7 @@ pub struct Progress {
 }
 
 impl Progress {
-    ghost use Rattle.layouts.specs.Reading.{Added};
+    ghost use Rattle.layouts.specs.Reading.{Counted, Added};
 
     pub(crate) fn start() -> Progress
         ensures { (result.records ≡ 0) × (result.bytes ≡ 0) }
@@ -24,7 +24,7 @@ impl Progress {
 
     // So many bytes more. No reading asks for more than the record under way lacks.
     pub(crate) fn add(self, count: usize) -> Progress
-        requires counts { self.records < 18446744073709551615 }
+        requires counts { Counted self }
         requires lacked { self.bytes + count ≤ 2048 }
         ensures { Added self count result }
     {

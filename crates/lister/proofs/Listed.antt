@@ -41,7 +41,6 @@ use Rattle.drawer.proofs.Readings.{map_accepts, table_good, length_table}
 use Rattle.drawer.proofs.Writing.{room_enough}
 use Rattle.lister.specs.Listing.{decimal, spaced, shown_fault, accepted_line, refused_line, line_for, line_of, short_end, line_from}
 use Rattle.lister.specs.Answer.{PrintedAs}
-use Rattle.lister.specs.Inside.{HoldsMap}
 use Rattle.lister.specs.declared.line.Line.{Line}
 use Rattle.lister.specs.contracts.line.Line.{struct, the_propositions}
 
@@ -98,7 +97,7 @@ module _ (r before : List ℕ) (long : length r ≡ 2048) (room : 1020 ≤ lengt
       unfolding is_bad reading_of
       good_here = (table_good r (ap is_bad (sym reads))).1
 
-      small : l.n * l.m ≤ 1020
+      pub small : l.n * l.m ≤ 1020
       unfolding map_of
       small = rw (of_map.1, of_map.2) of_map.0.bounds.table_most
 
@@ -112,14 +111,11 @@ module _ (r before : List ℕ) (long : length r ≡ 2048) (room : 1020 ≤ lengt
           ap (take (l.n * l.m)) after_is ∙ over_front (filed_in r).layout.table before (l.n * l.m) (rw (length_table r, ← of_map.1, ← of_map.2) refl) in
           λ i. lent (of_map.1 i) (of_map.2 i) (front i)
 
-      takes : accepts (check_answer (lent l.n l.m (take (l.n * l.m) after))) ≡ true
+      pub takes : accepts (check_answer (lent l.n l.m (take (l.n * l.m) after))) ≡ true
       unfolding map_of
       takes =
           let whole : Shaped (filed_in r).layout = record { bounds = of_map.0.bounds; long = length_table r } in
           ap (λ (g : Given). accepts (check_answer g)) lent_is ∙ ap accepts (shaped_map (filed_in r).layout whole) ∙ map_accepts (map_of (filed_in r).layout) of_map.0
-
-      pub holds_map : HoldsMap l.n l.m after
-      holds_map = record { small = small; takes = takes }
 
       pub map_listed : (k : ℕ) → accepted_line e.die (lent l.n l.m (take (l.n * l.m) after)) ≡ line_of k r
       unfolding line_of line_for

@@ -1,12 +1,13 @@
-// The lines that the layout lister prints, of a record and of what is left at the input's end.
+// The lines that the layout lister prints, of a record and of what is left at the input's end. Its arrays are locals: nothing is
+// allocated.
 #![tactic(auto)]
 
-ghost use Rattle.std.specs.Prelude.{◌≡◌, ◌*◌, [], ◌∷◌, take};
-ghost use Rattle.maps.specs.Given.{lent};
+ghost use Rattle.std.specs.Prelude.{◌≡◌, [], ◌∷◌};
+ghost use Rattle.maps.specs.Shown.{given};
 ghost use Rattle.drawer.specs.Answers.{fault_of};
 ghost use Rattle.lister.specs.Listing.{decimal, spaced, refused_word, shown_fault, accepted_line, refused_line, line_of, line_from, short_end};
 ghost use Rattle.lister.specs.Answer.{PrintedAs};
-ghost use Rattle.lister.specs.Inside.{text_of, HoldsMap};
+ghost use Rattle.lister.specs.Inside.{text_of, IsMap};
 
 mod line;
 
@@ -16,14 +17,14 @@ use maps::{Shown, Table};
 use words::Signature;
 
 #[tactic(auto, unfolding(crate::specs::Listing::spaced))]
-fn accepted_line(die: usize, n: usize, m: usize, symmetries: usize, start: usize) -> Line
+fn accepted_line(die: usize, table: Table<'_>, signature: Signature) -> Line
     ensures { text_of result
-        ≡ spaced (decimal die ∷ decimal n ∷ decimal m ∷ decimal symmetries ∷ decimal start ∷ []) }
+        ≡ spaced (decimal die ∷ decimal table.entry.n ∷ decimal table.entry.m ∷ decimal signature.symmetries ∷ decimal signature.start ∷ []) }
 {
-    let mut line = Line::ending_with(start);
-    line.put_number(symmetries);
-    line.put_number(m);
-    line.put_number(n);
+    let mut line = Line::ending_with(signature.start);
+    line.put_number(signature.symmetries);
+    line.put_number(table.m);
+    line.put_number(table.n);
     line.put_number(die);
     line
 }
@@ -53,47 +54,46 @@ fn short_line(count: usize) -> Line
     line
 }
 
-// The line of a record that is refused: 14 is shown with the record's own number.
+// The line of a record that is refused, by the display's numbers: 14 is shown with the record's own number. The cast stays, here and below: `usize` is not
+// `From<u32>`.
 #[tactic(auto, unfolding(crate::specs::Listing::shown_fault, crate::specs::Listing::refused_line, drawer::specs::Answers::fault_of, maps::specs::Verdict::refused))]
-fn fault_line(number: usize, die: usize, fault: RecordFault) -> Line
-    ensures { text_of result ≡ refused_line die (shown_fault number (fault_of fault)) }
+fn fault_line(record_number: usize, die: usize, fault: RecordFault) -> Line
+    ensures { text_of result ≡ refused_line die (shown_fault record_number (fault_of fault)) }
 {
-    let (shown, place) = match fault {
+    let (number, place) = match fault {
         RecordFault::Dimension => (1, 0),
         RecordFault::Size => (2, 0),
         RecordFault::NoMap(refusal) => refusal.number_and_place(),
         RecordFault::NoDie
         | RecordFault::ZeroByte
         | RecordFault::Filling
-        | RecordFault::OtherWord => (14, number),
+        | RecordFault::OtherWord => (14, record_number),
     };
-    refused_line(die, shown as usize, place)
+    refused_line(die, number as usize, place)
 }
 
 // The line of an accepted map, which the signature does not refuse.
-fn table_line(die: usize, n: usize, m: usize, numbers: &[u16; 1020]) -> Line
-    requires { HoldsMap n m numbers.now }
-    ensures { text_of result ≡ accepted_line die (lent n m (take (n * m) numbers.now)) }
+fn table_line(die: usize, table: Table<'_>) -> Line
+    requires { IsMap (given table) }
+    ensures { text_of result ≡ accepted_line die (given table.entry) }
 {
     let mut word = [0u16; 1020];
-    let table = Table {
-        n,
-        m,
-        numbers: &numbers[..n * m],
-    };
-    let Signature { start, symmetries } = words::signature(table, &mut word).unwrap();
-    accepted_line(die, n, m, symmetries, start)
+    let signature = words::signature(table, &mut word).unwrap();
+    accepted_line(die, table, signature)
 }
 
 // The line of a record. Its bytes cannot be too few to be read.
-fn record_line(number: usize, bytes: &[u8; 2048]) -> Line
-    ensures { text_of result ≡ line_of number bytes.now }
+fn record_line(record_number: usize, bytes: &[u8; 2048]) -> Line
+    ensures { text_of result ≡ line_of record_number bytes.now }
 {
     let mut numbers = [0u16; 1020];
     let Entry { die, reading } = drawer::read_table(bytes, &mut numbers).unwrap();
     match reading {
-        Ok(Layout { n, m, .. }) => table_line(die as usize, n, m, &numbers),
-        Err(fault) => fault_line(number, die as usize, fault),
+        Ok(Layout { n, m, .. }) => {
+            let numbers = &numbers[..n * m];
+            table_line(die as usize, Table { n, m, numbers })
+        }
+        Err(fault) => fault_line(record_number, die as usize, fault),
     }
 }
 

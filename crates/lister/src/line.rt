@@ -1,4 +1,5 @@
-// A line that the lister prints. It is made from its end, so that what is put last stands in front.
+// A line that the lister prints. It is made from its end, so that what is put last stands in front. It is put together by hand and
+// not by `write!`, since std's printing into a buffer has no contract on the bytes that are left there.
 ghost use Rattle.std.specs.Prelude.{◌≡◌, ◌+◌, ◌≤◌, [], ◌∷◌, ◌++◌, length, take, replicate};
 
 // A line, from `start` to the end of the array; zeros stand before it. Both fields stay, since `PrintedAs`, which `line_from`
@@ -49,7 +50,7 @@ impl Line {
         self.start = start;
     }
 
-    // The digits of a number.
+    // The digits of a number. The cast stays: `u64` is not `From<usize>`.
     #[tactic(auto, using(crate::proofs::Printing::digits_put))]
     fn put_decimal(&mut self, x: usize)
         requires { 20 ≤ self.old.start }

@@ -2,6 +2,15 @@
 --     refusal_only, verdict_only          a refusal, an answer, is told by what it shows
 --     refusal_low, refusal_high, refusal_refuses
 --                                         a refusal shows a number from 1 to 9
+--     refusal_at, refusal_back, judged_of
+--                                         the refusal, the answer, that shows a number at a place
+--     Answered shown v                    some answer shows the verdict v: it accepts, at place 0, or is what a refusal shows
+--     AllAnswered, answered_in_order      so of a list of verdicts, and the first of them that refuses
+--     answered_unless, answered_at_least  so a verdict by a test, or by the least wrong place, whose refusal is shown
+--     answered_as, answered_second        so what other refusals show too, and the verdict on a second map
+--     shape_answered, output_answered, entries_answered, sewing_answered
+--                                         so the verdicts of the rules 1 to 8
+--     verdict_of-judged_of                an answer's number and place are those of the verdict that it stands for
 --     ok_accepts, err_refuses             an answer is `Ok` exactly when its verdict accepts
 --     as_refused, as_passed               an answer that has its verdict
 --     as_same                             judges that agree on a table have the same answers
@@ -16,8 +25,8 @@
 -- Assumes nothing.
 use Prim.Native.Nat.{ℕ, suc, ◌+◌, ◌-◌, ◌*◌, ◌≤◌}
 use mathlib.Core.Path.{◌≡◌, refl, sym, ap, ◌∙◌}
-use mathlib.Core.Bool.{true, false, cond}
-use mathlib.Core.List.{List, map}
+use mathlib.Core.Bool.{Bool, true, false, cond}
+use mathlib.Core.List.{List, [], ◌∷◌, map}
 use native.Mathlib.Omega.{arith}
 use borrow.Author.Tests.{eq-eqb, ne_eqb, eqb-true, eqb-false, lt-ltb}
 use lib.Dec.{eqb, ltb}
@@ -26,21 +35,23 @@ use lib.Seq.{get_or-set_same, get_or-set_other, ext_get_or}
 use Rattle.maps.specs.Least.{nth, up_to, least, some}
 use Rattle.maps.specs.Map.{Map, IsDart, back, sew}
 use Rattle.maps.specs.Given.{Given, map_of, place_of}
-use Rattle.maps.specs.Verdict.{Verdict, accepted, refused, accepts}
-use Rattle.maps.specs.Rules.{given_before, judge_entries}
+use Rattle.maps.specs.Verdict.{Verdict, accepted, refused, accepts, unless, at_least, in_order, of_second}
+use Rattle.maps.specs.Rules.{judge_dimension, judge_size, judge_length, judge_shape, judge_output, Rule, given_before, over_rule, clash_rule, reverse_rule, compose_rule, rules, wrong_entry, shown_place, judged_by, judge_entries, judge_sewing}
 use Rattle.std.specs.Prelude.{Result, Ok, Err, None, Some}
 use Rattle.maps.specs.Shown.{shown_refusal, verdict_of}
 use Rattle.maps.specs.Answer.{backs_of, JudgedAs}
 use Rattle.maps.specs.Inside.{EntriesJudged, BackAs}
 use Rattle.std.specs.Result.{is_err}
+use Rattle.maps.specs.declared.Output.{Output}
+use Rattle.maps.specs.declared.Output.TheVariants.{Nothing, Word, Images}
 use Rattle.maps.specs.declared.Refusal.{Refusal}
 use Rattle.maps.specs.declared.Refusal.TheVariants.{Dimension, Size, Length, Room, Exceeds, GivenBefore, Unanswered, Parted, NotReached}
 use Rattle.maps.proofs.Least.{true_not_false, Passed, passed_start, passed_turn, found_some, found_none, least_hit, least_miss, least_kept, sought, Sought, nowhere, somewhere, Tested, passes, fails, tested, some_cong, length-up_to, nth-map-up_to, nth-suc}
 use Rattle.maps.proofs.Rules.{clash_entry, clash_none}
 use Rattle.maps.proofs.Map.{takes, sew_beta, sew_back}
 
--- what a verdict shows is told apart by its number
-unfoldable refusal_at : ℕ → ℕ → Refusal
+-- the refusal that shows a number from 1 to 9 at a place
+unfoldable pub refusal_at : ℕ → ℕ → Refusal
 refusal_at k p =
     cond (eqb k 1) Dimension
     (cond (eqb k 2) Size
@@ -52,7 +63,7 @@ refusal_at k p =
     (cond (eqb k 8) (Parted p)
     (NotReached p))))))))
 
-refusal_back : (r : Refusal) → refusal_at (shown_refusal r).number (shown_refusal r).place ≡ r
+pub refusal_back : (r : Refusal) → refusal_at (shown_refusal r).number (shown_refusal r).place ≡ r
 unfolding refused refusal_at
 refusal_back Dimension = refl
 refusal_back Size = refl
@@ -112,6 +123,90 @@ verdict_only (Ok a) (Ok b) same = refl
 verdict_only (Ok a) (Err s) same = let number : 0 ≡ (shown_refusal s).number = ap (λ (v : Verdict). v.number) same in absurd (omega (arith, refusal_low s))
 verdict_only (Err r) (Ok b) same = let number : (shown_refusal r).number ≡ 0 = ap (λ (v : Verdict). v.number) same in absurd (omega (arith, refusal_low r))
 verdict_only (Err r) (Err s) same = ap Err (refusal_only r s same)
+
+-- the answer that stands for a verdict
+unfoldable pub judged_of : Verdict → Result Unit Refusal
+judged_of v = cond (accepts v) (Ok tt) (Err (refusal_at v.number v.place))
+
+-- some answer shows the verdict: it accepts, at place 0, or is what a refusal shows
+pub data Answered {E : Type 0} (shown : E → Verdict) (v : Verdict) : Type 0 where
+  answers_ok : v ≡ accepted → Answered shown v
+  answers_err : (r : E) → v ≡ shown r → Answered shown v
+
+-- and so of a list of verdicts
+pub data AllAnswered {E : Type 0} (shown : E → Verdict) : List Verdict → Type 0 where
+  all_done : AllAnswered shown []
+  one_more : {v : Verdict} {vs : List Verdict} → Answered shown v → AllAnswered shown vs → AllAnswered shown (v ∷ vs)
+
+module _ {E : Type 0} {shown : E → Verdict} where
+  pub answered_in_order : {vs : List Verdict} → AllAnswered shown vs → Answered shown (in_order vs)
+  unfolding in_order
+  answered_in_order all_done = answers_ok refl
+  answered_in_order (one_more {v} {vs} first others) = at (tested (accepts v)) (answered_in_order others)
+    where
+      at : Tested (accepts v) → Answered shown (in_order vs) → Answered shown (in_order (v ∷ vs))
+      at (passes e) rest = simp e rest
+      at (fails e) rest = simp e first
+
+  pub answered_unless : (b : Bool) (k p : ℕ) (r : E) → refused k p ≡ shown r → Answered shown (unless b k p)
+  unfolding unless
+  answered_unless true k p r is = answers_ok refl
+  answered_unless false k p r is = answers_err r is
+
+  pub answered_at_least : (k p : ℕ) (r : E) → refused k p ≡ shown r → Answered shown (at_least k p)
+  unfolding at_least
+  answered_at_least k p r is = answered_unless (eqb p 0) k p r is
+
+  -- what other refusals show too
+  pub answered_as : {F : Type 0} {shown' : F → Verdict} (f : E → F) → ((r : E) → shown r ≡ shown' (f r)) → {v : Verdict} → Answered shown v → Answered shown' v
+  answered_as f same (answers_ok is) = answers_ok is
+  answered_as f same (answers_err r is) = answers_err (f r) (is ∙ same r)
+
+  -- and of a second map, where they are 20 higher
+  pub answered_second : {F : Type 0} {shown' : F → Verdict} (f : E → F) → ((r : E) → of_second (shown r) ≡ shown' (f r)) → {v : Verdict} → Answered shown v → Answered shown' (of_second v)
+  unfolding of_second accepts accepted
+  answered_second f same (answers_ok is) = answers_ok (rw is refl)
+  answered_second f same (answers_err r is) = answers_err (f r) (ap of_second is ∙ same r)
+
+-- an answer's number and place are those of the verdict that it stands for
+pub verdict_of-judged_of : {v : Verdict} → Answered shown_refusal v → verdict_of (judged_of v) ≡ v
+unfolding judged_of accepts accepted
+verdict_of-judged_of (answers_ok is) = rw is refl
+verdict_of-judged_of (answers_err r is) = rw is (simp (refusal_refuses r, refusal_back r))
+
+-- an answer shows each verdict of the rules 1 to 8
+pub shape_answered : (g : Given) → Answered shown_refusal (judge_shape g)
+unfolding judge_shape judge_dimension judge_size judge_length
+shape_answered g =
+    answered_in_order
+    (one_more (answered_unless _ 1 0 Dimension refl)
+    (one_more (answered_unless _ 2 0 Size refl)
+    (one_more (answered_unless _ 3 0 Length refl) all_done)))
+
+pub output_answered : (o : Output) (n m : ℕ) → Answered shown_refusal (judge_output o n m)
+unfolding judge_output
+output_answered Nothing n m = answers_ok refl
+output_answered (Word room) n m = answered_unless _ 4 0 Room refl
+output_answered (Images room) n m = answered_unless _ 4 0 Room refl
+
+rule_answered : (M : Map) (rule : Rule) (at : ℕ → Refusal) → ((p : ℕ) → refused rule.number p ≡ shown_refusal (at p)) → Answered shown_refusal (judged_by M rule)
+unfolding judged_by shown_place
+rule_answered M rule at is =
+    let p = wrong_entry M rule in
+    answered_unless _ rule.number p (at p) (is p)
+
+pub entries_answered : (M : Map) → Answered shown_refusal (judge_entries M)
+unfolding judge_entries rules
+entries_answered M =
+    answered_in_order
+    (one_more (rule_answered M over_rule Exceeds (λ p. refl))
+    (one_more (rule_answered M clash_rule GivenBefore (λ p. refl))
+    (one_more (rule_answered M reverse_rule Unanswered (λ p. refl))
+    (one_more (rule_answered M compose_rule Parted (λ p. refl)) all_done))))
+
+pub sewing_answered : (o : Output) (g : Given) → Answered shown_refusal (judge_sewing o g)
+unfolding judge_sewing
+sewing_answered o g = answered_in_order (one_more (shape_answered g) (one_more (output_answered o g.n g.m) (one_more (entries_answered (map_of g)) all_done)))
 
 -- a judge's answer on a table that it refuses, and on one that it accepts
 module _ {judge : Given → Verdict} {g : Given} {held : List ℕ} where

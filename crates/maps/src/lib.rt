@@ -37,6 +37,7 @@ impl Table<'_> {
         requires { (1 ≤ self.n) × (self.n ≤ 4) }
         ensures { result ≡ (leb 1 self.entry.m && leb (self.entry.n * self.entry.m) 1020) }
     {
+        // m by itself first, so that the product fits.
         1 <= self.m && self.m <= 1020 && self.n * self.m <= 1020
     }
 }
@@ -106,8 +107,9 @@ impl Output {
     }
 }
 
+// A dart and a sewing stay numbers, which `requires` bounds: a type for them would carry the table at each step.
 impl InShape<'_> {
-    // βi(d) for i from 1. Nothing is sewn to what is no dart.
+    // βi(d) for i from 1. Nothing is sewn to what is no dart: that is 0, as in the table itself (document 01).
     fn sewn(self, i: usize, d: usize) -> usize
         requires { IsSewing (given self.table) i }
         ensures { result ≡ sew (map_of (given self.entry.table)) i d }
@@ -127,11 +129,11 @@ impl InShape<'_> {
         e != 0 && self.sewn(i, self.sewn(j, e)) != d
     }
 
-    // The least sewing of d that breaks a rule.
+    // The least sewing of d that breaks a rule. Ranges are half-open: `1..=n` costs more at each turn.
     fn wrong_sewing<R: Rule>(self, d: usize) -> Option<usize>
         ensures { result ≡ found_at (wrong_sewing (map_of (given self.entry.table)) R.rule d) }
     {
-        for i in R::least_sewing()..=self.table.n {
+        for i in R::least_sewing()..self.table.n + 1 {
             if R::breaks(self, d, i) {
                 return Some(i);
             }
@@ -143,7 +145,7 @@ impl InShape<'_> {
     fn wrong_entry<R: Rule>(self) -> Option<usize>
         ensures { result ≡ found_at (wrong_entry (map_of (given self.entry.table)) R.rule) }
     {
-        for d in 1..=self.table.m {
+        for d in 1..self.table.m + 1 {
             if let Some(i) = self.wrong_sewing::<R>(d) {
                 return Some((d - 1) * self.table.n + i);
             }
@@ -156,12 +158,13 @@ impl InShape<'_> {
         requires { Blank (given self.table) back.old }
         ensures { BackAs (map_of (given self.entry.table)) result back.new }
     {
-        for d in 1..=self.table.m {
+        for d in 1..self.table.m + 1 {
             let e = self.sewn(1, d);
             if e != 0 {
                 if back[e - 1] != 0 {
                     return Some((d - 1) * self.table.n + 1);
                 }
+                // There are at most 1,020 darts.
                 back[e - 1] = d as u16;
             }
         }
@@ -193,7 +196,7 @@ impl InShape<'_> {
 trait Rule {
     ghost rule: { judging.Rule };
 
-    // No lower sewing breaks the rule.
+    // No lower sewing breaks the rule. A function, and no constant, since it promises that.
     fn least_sewing() -> usize
         ensures { SpeaksFrom rule result };
 
@@ -230,6 +233,7 @@ impl Rule for Reversed {
     }
 
     fn breaks(shape: InShape<'_>, d: usize, i: usize) -> bool {
+        // The search begins at 2, and the rule as it is defined speaks of every sewing.
         if i < 2 {
             return false;
         }

@@ -1,4 +1,5 @@
-// A table in shape, as the functions inside take it.
+// A table in shape, as this crate's own functions take it. It has a file of its own, since a type with a ghost field depends on what
+// its file's clauses name.
 ghost use Rattle.maps.specs.Given.{Shaped};
 ghost use Rattle.maps.specs.Shown.{given};
 

@@ -2,20 +2,26 @@
 --     shown_second              a refusal of a second table is 20 higher
 --     second_accepted           a second table that is accepted stays so
 --     list_refuses              a refusal shows a number from 1 on
+--     list_answered             some answer shows each verdict
 --     list_shown_only           answers that show the same are the same
 -- Assumes nothing.
 use Prim.Native.Nat.{ℕ, ◌+◌, ◌-◌}
 use mathlib.Core.Path.{◌≡◌, refl, sym, ap, ◌∙◌}
 use mathlib.Core.Bool.{cond, false}
+use mathlib.Core.List.{List}
 use native.Mathlib.Omega.{arith}
 use borrow.Author.Tests.{ne_eqb}
 use lib.Dec.{eqb, ltb}
 use Rattle.std.specs.Prelude.{Result, Ok, Err}
+use Rattle.maps.specs.Given.{Given}
 use Rattle.maps.specs.Verdict.{Verdict, accepted, refused, accepts, of_second}
 use Rattle.maps.specs.Shown.{shown_refusal}
-use Rattle.maps.proofs.Answer.{refusal_refuses}
+use Rattle.maps.proofs.Answer.{refusal_at, refusal_refuses, Answered, all_done, one_more, answered_in_order, answered_unless, answered_at_least, answered_as, answered_second}
 use Rattle.maps.specs.declared.Refusal.{Refusal}
 use Rattle.maps.specs.declared.Refusal.TheVariants.{Dimension, Size, Length, Room, Exceeds, GivenBefore, Unanswered, Parted, NotReached}
+use Rattle.labels.proofs.Judging.{check_answered}
+use Rattle.words.specs.Match.{judge_pair}
+use Rattle.matches.specs.Judge.{judge_answer}
 use Rattle.matches.specs.Shown.{shown_list_refusal, list_verdict_of}
 use Rattle.matches.specs.declared.ListRefusal.{ListRefusal}
 use Rattle.matches.specs.declared.ListRefusal.TheVariants.{First, Second, Unlike, Image, NotKept}
@@ -40,29 +46,18 @@ list_refuses (Image dart) = refl
 list_refuses (NotKept dart) = refl
 
 -- the refusal, and the answer, that show a number and a place
-abbrev refusal_of : ℕ → ℕ → Refusal
-refusal_of k p =
-    cond (eqb k 1) Dimension
-    (cond (eqb k 2) Size
-    (cond (eqb k 3) Length
-    (cond (eqb k 4) Room
-    (cond (eqb k 5) (Exceeds p)
-    (cond (eqb k 6) (GivenBefore p)
-    (cond (eqb k 7) (Unanswered p)
-    (cond (eqb k 8) (Parted p) (NotReached p))))))))
-
 abbrev list_refusal_of : ℕ → ℕ → ListRefusal
 list_refusal_of k p =
     cond (eqb k 10) Unlike
     (cond (eqb k 11) (Image p)
     (cond (eqb k 12) (NotKept p)
-    (cond (ltb k 10) (First (refusal_of k p)) (Second (refusal_of (k - 20) p)))))
+    (cond (ltb k 10) (First (refusal_at k p)) (Second (refusal_at (k - 20) p)))))
 
 abbrev answer_of : Verdict → Result Unit ListRefusal
 answer_of v = cond (eqb v.number 0) (Ok tt) (Err (list_refusal_of v.number v.place))
 
 known : (r : Result Unit ListRefusal) → answer_of (list_verdict_of r) ≡ r
-unfolding accepted refused of_second accepts
+unfolding accepted refused of_second accepts refusal_at
 known (Ok u) = refl
 known (Err (First Dimension)) = refl
 known (Err (First Size)) = refl
@@ -85,6 +80,18 @@ known (Err (Second (NotReached dart))) = refl
 known (Err Unlike) = refl
 known (Err (Image dart)) = refl
 known (Err (NotKept dart)) = refl
+
+-- some answer shows each verdict
+pub list_answered : (a b : Given) (f : List ℕ) → Answered shown_list_refusal (judge_answer a b f)
+unfolding judge_answer judge_pair
+list_answered a b f =
+    answered_in_order
+    (one_more (answered_as First (λ r. refl) (check_answered a))
+    (one_more (answered_second Second (λ r. refl) (check_answered b))
+    (one_more (answered_unless _ 10 0 Unlike refl)
+    (one_more (answered_unless _ 11 0 (Image 0) refl)
+    (one_more (answered_at_least 11 _ (Image _) refl)
+    (one_more (answered_at_least 12 _ (NotKept _) refl) all_done))))))
 
 -- answers that show the same are the same
 pub list_shown_only : (r s : Result Unit ListRefusal) → list_verdict_of r ≡ list_verdict_of s → r ≡ s

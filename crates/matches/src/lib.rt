@@ -64,7 +64,7 @@ struct Images<'a> {
     ghost to_darts: { (d : ℕ) → 1 ≤ d → d ≤ pair.first.m → (1 ≤ nth list.now d) × (nth list.now d ≤ pair.first.m) },
 }
 
-// What a dart is sewn to by β1, .. βn.
+// What a dart is sewn to by β1, .. βn. The crates below have the like, and no public function may ask for a table in shape.
 #[tactic(auto, using(crate::proofs::Inside::row_within))]
 fn row_of(table: Table<'_>, d: usize) -> &[u16]
     requires shaped { Shaped (given table) }
@@ -77,7 +77,7 @@ fn row_of(table: Table<'_>, d: usize) -> &[u16]
 }
 
 impl Images<'_> {
-    // The image of e. 0 goes to 0, and so does what is no dart.
+    // The image of e. 0 goes to 0, as document 01 says, and so does what is no dart.
     #[tactic(auto, using(crate::proofs::Inside::read_at))]
     fn image(self, e: usize) -> usize
         ensures { result ≡ nth self.entry.list.now e }
@@ -127,6 +127,7 @@ fn first_bad(list: &[u16]) -> Option<usize>
     requires { length list.now ≤ 1020 }
     ensures { result ≡ found_at (bad_image (length list.now) list.now) }
 {
+    // A flag for each dart that there may be, since memory is fixed (document 01).
     let mut used = [false; 1020];
     for (index, value) in list.iter().enumerate() {
         let e = usize::from(*value);

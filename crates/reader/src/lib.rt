@@ -1,4 +1,5 @@
-// The C boundary: the calls that the camera's program makes, on numbers and slices. include/duftheim.h declares them.
+// The C boundary: the calls that the camera's program makes, on numbers and slices. include/duftheim.h declares them, so that parameters
+// and fields are numbers one by one, and 0 is the number of an acceptance.
 #![tactic(auto)]
 
 ghost use Rattle.std.specs.Prelude.{◌≡◌};
@@ -51,6 +52,7 @@ pub struct DuftheimFiled {
     pub count: usize,
 }
 
+// The four conversions are alike, and stay one for each struct: C sees the structs, and each has fields of its own.
 impl<E: Shown + Drop> From<Result<(), E>> for DuftheimVerdict {
     ghost from_gives = { λ answer seen. Shows E.shown answer seen };
 
@@ -147,6 +149,7 @@ fn table_of(n: usize, m: usize, numbers: &[u16]) -> Table<'_>
     Table { n, m, numbers }
 }
 
+// Answers the start dart and the symmetries of a map, and writes its signature word to the output.
 #[tactic(auto, using(crate::proofs::Boundary::signed_as))]
 #[unsafe(no_mangle)]
 pub extern "C" fn duftheim_signature(
@@ -160,6 +163,7 @@ pub extern "C" fn duftheim_signature(
     words::signature(table_of(n, m, table), output).into()
 }
 
+// Answers whether a table is that of a map, and if not, why.
 #[tactic(auto, using(crate::proofs::Boundary::judged_shown))]
 #[unsafe(no_mangle)]
 pub extern "C" fn duftheim_check(n: usize, m: usize, table: &[u16]) -> DuftheimVerdict
@@ -168,6 +172,7 @@ pub extern "C" fn duftheim_check(n: usize, m: usize, table: &[u16]) -> DuftheimV
     labels::check(table_of(n, m, table)).into()
 }
 
+// Answers whether two maps match, and writes the matching from the first to the second to the output.
 #[tactic(auto, using(crate::proofs::Boundary::match_shown))]
 #[unsafe(no_mangle)]
 pub extern "C" fn duftheim_match(
@@ -186,6 +191,7 @@ pub extern "C" fn duftheim_match(
     words::match_maps(first, second, output).into()
 }
 
+// Answers whether a list is a matching from the first map to the second.
 #[tactic(auto, using(crate::proofs::Boundary::list_shown))]
 #[unsafe(no_mangle)]
 pub extern "C" fn duftheim_judge(
@@ -199,11 +205,12 @@ pub extern "C" fn duftheim_judge(
 ) -> DuftheimVerdict
     ensures { ListJudgedAs (lent n m table.now) (lent n2 m2 table2.now) list.now result }
 {
-    let from = table_of(n, m, table);
-    let to = table_of(n2, m2, table2);
-    matches::judge_list(from, to, list).into()
+    let first = table_of(n, m, table);
+    let second = table_of(n2, m2, table2);
+    matches::judge_list(first, second, list).into()
 }
 
+// Answers whether a drawer is good, and if not, why.
 #[tactic(auto, using(crate::proofs::Boundary::drawer_shown))]
 #[unsafe(no_mangle)]
 pub extern "C" fn duftheim_drawer_check(count: usize, bytes: &[u8]) -> DuftheimVerdict
@@ -212,6 +219,7 @@ pub extern "C" fn duftheim_drawer_check(count: usize, bytes: &[u8]) -> DuftheimV
     drawer::check_drawer(Records { count, bytes }).into()
 }
 
+// Answers under which die, and in which record, a drawer holds the layout of a map.
 #[tactic(auto, using(crate::proofs::Boundary::found_as))]
 #[unsafe(no_mangle)]
 pub extern "C" fn duftheim_search(
@@ -226,6 +234,7 @@ pub extern "C" fn duftheim_search(
     drawer::search_drawer(table_of(n, m, table), Records { count, bytes }).into()
 }
 
+// Files the layout of a map for a die behind the records of a drawer, and answers their new count.
 #[tactic(auto, using(crate::proofs::Boundary::filed_as))]
 #[unsafe(no_mangle)]
 pub extern "C" fn duftheim_file(

@@ -13,6 +13,7 @@
 --                              an answer and its output
 --     mismatch_only, mismatch_refuses, match_verdict_only
 --                              an answer is told by what it shows
+--     match_answered           some answer shows each verdict
 --     matches_only             no second answer fits
 --     match_shows              the answer is what its lines show
 --     Cleared, match_clear     what an accepted match has passed
@@ -44,10 +45,10 @@ use Rattle.maps.specs.declared.Output.TheVariants.{Images}
 use Rattle.maps.proofs.Least.{Tested, passes, fails, tested, true_not_false, Found, least_found, Sought, nowhere, somewhere, sought, length-up_to}
 use Rattle.maps.proofs.Verdict.{refused_refuses, in_order_passed, in_order_refused, in_order_first, unless_passed, unless_refused, unless-accepts}
 use Rattle.maps.proofs.Lines.{clear_shows, plain_silent, shows_then, shows_raised, both_pass}
-use Rattle.maps.proofs.Answer.{refusal_only, refusal_low, refusal_high}
+use Rattle.maps.proofs.Answer.{refusal_only, refusal_low, refusal_high, refusal_refuses, Answered, all_done, one_more, answered_in_order, answered_unless, answered_as, answered_second}
 use Rattle.labels.specs.Judging.{table_answer, check_answer}
 use Rattle.labels.specs.Theorems.{CheckShows}
-use Rattle.labels.proofs.Judging.{table_shows, table_clear, check_whole}
+use Rattle.labels.proofs.Judging.{table_shows, table_clear, check_whole, table_answered, check_answered}
 use Rattle.labels.proofs.Theorems.{check_shows}
 use Rattle.words.specs.Words.{word, yields, by_labels}
 use Rattle.words.specs.Sign.{over}
@@ -263,6 +264,16 @@ module _ {a b : Given} {out : List ℕ} where
   pub matches_passed : {out' : List ℕ} (u : Unit) → match_answer a b (length out) ≡ accepted → out' ≡ over (shown (map_of a) (map_of b)) out → MatchesAs a b out (Ok u) out'
   unfolding match_output accepts accepted
   matches_passed u is wrote = record { answer = sym is; written = wrote ∙ sym (rw is refl) }
+
+-- some answer shows each verdict
+pub match_answered : (a b : Given) (room : ℕ) → Answered shown_mismatch (match_answer a b room)
+unfolding match_answer judge_pair judge_matching
+match_answered a b room =
+    answered_in_order
+    (one_more (answered_as First (λ r. refl) (table_answered (Images room) a))
+    (one_more (answered_second Second (λ r. of_second-refused (shown_refusal r) (refusal_refuses r)) (check_answered b))
+    (one_more (answered_unless _ 10 0 Unmatched refl)
+    (one_more (answered_unless _ 10 0 Unmatched refl) all_done))))
 
 -- no second answer fits: neither another answer nor another output
 pub matches_only : (a b : Given) (out : List ℕ) (r s : Result Unit Mismatch) (o p : List ℕ) → MatchesAs a b out r o → MatchesAs a b out s p → (r ≡ s) × (o ≡ p)

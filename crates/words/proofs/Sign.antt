@@ -6,18 +6,20 @@
 --     signed_run               what the run has found, copied to the output, is the answer
 --     signing_room             where the verdict accepts, the output is long enough
 --     shown_only               an answer is told by its numbers
+--     signed_of                the answer that stands for numbers
 --     shown-signed, shown_answer
---                              an answer's numbers: all others are 0 in a refused one, and they are those of the definition
+--                              an answer's numbers are those of the definition, and all others are 0 in a refused one
 --     signed_only              no second answer fits
---     signing_shows            the answer's numbers are what the call's lines show
+--     signing_shows            they are what the call's lines show
 -- Assumes nothing.
 use Prim.Native.Nat.{ℕ, zero, suc, ◌*◌, ◌≤◌}
 use mathlib.Core.Path.{◌≡◌, refl, sym, ap, ◌∙◌}
-use mathlib.Core.Bool.{true, false}
+use mathlib.Core.Bool.{true, false, cond}
 use mathlib.Core.List.{List, ◌∷◌, ◌++◌}
 use native.Mathlib.Omega.{arith}
 use native.Mathlib.Nat.{le_of_suc-le-suc}
-use borrow.Author.Tests.{leb-true}
+use borrow.Author.Tests.{eq-eqb, ne_eqb, leb-true}
+use lib.Dec.{eqb}
 use lib.ListN.{length, take, drop, replicate, length-append, length-drop}
 use lib.Seq.{take-append_seam}
 use Rattle.maps.specs.Map.{Map}
@@ -32,9 +34,9 @@ use Rattle.maps.specs.declared.Refusal.{Refusal}
 use Rattle.maps.specs.declared.Output.TheVariants as output
 use Rattle.maps.proofs.Least.{Tested, passes, fails, tested}
 use Rattle.maps.proofs.Verdict.{unless-accepts}
-use Rattle.maps.proofs.Answer.{refusal_only, refusal_low, err_refuses}
+use Rattle.maps.proofs.Answer.{refusal_only, refusal_low, refusal_at, refusal_back, Answered, answers_ok, answers_err, err_refuses}
 use Rattle.labels.specs.Judging.{table_answer}
-use Rattle.labels.proofs.Judging.{table_shows, table_clear, table_whole}
+use Rattle.labels.proofs.Judging.{table_shows, table_clear, table_whole, table_answered}
 use Rattle.words.specs.Words.{signature}
 use Rattle.words.specs.Sign.{SignatureAnswer, shown_signed, signature_answer, signature_output, over, SignsAs}
 use Rattle.words.specs.Inside.{Signs}
@@ -117,14 +119,24 @@ shown_only (Err r) (Err s) e =
     let place = ap (λ (x : SignatureAnswer). x.place) e in
     ap Err (refusal_only r s (λ i. record { number = number i; place = place i }))
 
--- an accepting answer has place 0, and all other numbers of a refused one are 0
-pub shown-signed : (r : Result Signature Refusal) → ((shown_signed r).number ≡ 0 → (shown_signed r).place ≡ 0) × (((shown_signed r).number ≡ 0 → ⊥) → ((shown_signed r).start ≡ 0) × ((shown_signed r).symmetries ≡ 0))
-shown-signed (Ok s) = (λ none. refl, λ some. absurd (some refl))
-shown-signed (Err r) = (λ none. absurd (omega (arith, refusal_low r)), λ some. (refl, refl))
+-- the answer that stands for numbers
+unfoldable pub signed_of : SignatureAnswer → Result Signature Refusal
+signed_of a = cond (eqb a.number 0) (Ok (record { start = a.start; symmetries = a.symmetries })) (Err (refusal_at a.number a.place))
 
--- the numbers of an answer that keeps the promise are the definition's
-pub shown_answer : {g : Given} {out after : List ℕ} {r : Result Signature Refusal} → SignsAs g out r after → shown_signed r ≡ signature_answer g (length out)
-shown_answer promised = promised.answer
+-- an answer's numbers are those that it stands for, where some refusal has the number and the place, or both are 0
+pub shown-signed : (a : SignatureAnswer) → Answered shown_refusal (refused a.number a.place) → ((a.number ≡ 0 → ⊥) → (a.start ≡ 0) × (a.symmetries ≡ 0)) → shown_signed (signed_of a) ≡ a
+unfolding signed_of refused accepted
+shown-signed a (answers_ok is) none =
+    let number : a.number ≡ 0 = ap (λ (v : Verdict). v.number) is in
+    let place : a.place ≡ 0 = ap (λ (v : Verdict). v.place) is in
+    simp (eq-eqb a.number 0 number) (λ i. record { number = sym number i; place = sym place i; start = a.start; symmetries = a.symmetries })
+shown-signed a (answers_err r is) none =
+    let number : a.number ≡ (shown_refusal r).number = ap (λ (v : Verdict). v.number) is in
+    let place : a.place ≡ (shown_refusal r).place = ap (λ (v : Verdict). v.place) is in
+    let some : a.number ≡ 0 → ⊥ = λ z. omega (arith, refusal_low r) in
+    let back : refusal_at a.number a.place ≡ r = (λ i. refusal_at (number i) (place i)) ∙ refusal_back r in
+    let rest = none some in
+    simp (ne_eqb a.number 0 some, back) (λ i. record { number = sym number i; place = sym place i; start = sym rest.0 i; symmetries = sym rest.1 i })
 
 -- no second answer fits: neither another answer nor another output
 pub signed_only : (g : Given) (out : List ℕ) (r s : Result Signature Refusal) (o p : List ℕ) → SignsAs g out r o → SignsAs g out s p → (r ≡ s) × (o ≡ p)
@@ -134,7 +146,20 @@ module _ (g : Given) (room : ℕ) where
   abbrev w : Verdict
   w = table_answer (output.Word room) g
 
-  -- the numbers of the call's answer are what its lines show
+  -- the numbers of the call's answer are the definition's
+  pub shown_answer : shown_signed (signed_of (signature_answer g room)) ≡ signature_answer g room
+  unfolding signature_answer accepted refused
+  shown_answer = shown-signed (signature_answer g room) (at (tested (accepts w))) (rest (tested (accepts w)))
+    where
+      at : Tested (accepts w) → Answered shown_refusal (refused (signature_answer g room).number (signature_answer g room).place)
+      at (passes e) = answers_ok (simp e)
+      at (fails e) = simp e (table_answered (output.Word room) g)
+
+      rest : Tested (accepts w) → ((signature_answer g room).number ≡ 0 → ⊥) → ((signature_answer g room).start ≡ 0) × ((signature_answer g room).symmetries ≡ 0)
+      rest (passes e) some = absurd (some (simp e))
+      rest (fails e) some = (simp e, simp e)
+
+  -- they are what the call's lines show
   pub signing_shows : Shows (table_lines (output.Word room) g) (refused (signature_answer g room).number (signature_answer g room).place)
   unfolding signature_answer accepts accepted refused
   signing_shows = at (tested (accepts w))

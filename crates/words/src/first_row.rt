@@ -3,6 +3,7 @@ ghost use Rattle.std.specs.Prelude.{◌≡◌, ◌≤◌};
 ghost use Rattle.maps.specs.Map.{IsDart, sew};
 ghost use Rattle.maps.specs.Given.{map_of};
 ghost use Rattle.maps.specs.Shown.{given};
+ghost use Rattle.maps.specs.Inside.{IsSewing};
 ghost use Rattle.words.specs.FirstRow.{first_label, rank_of, LeastRank, passes_over};
 
 use crate::map::Map;
@@ -25,26 +26,25 @@ fn first_label(d: usize, back: usize, next: usize) -> usize
     }
 }
 
-// βi(d) for i from 1. Beyond the dimension nothing is sewn.
+// βi(d) for i from 1 to the dimension. A dart stays a number, which `requires` bounds: a type for it would carry the map. `maps` has a
+// function like it, for any number d, which no other crate may call.
 fn sewn(map: Map<'_>, i: usize, d: usize) -> usize
     requires dart { IsDart (map_of (given map.table)) d }
-    requires some { 1 ≤ i }
+    requires sewing { IsSewing (given map.table) i }
     ensures { result ≡ sew (map_of (given map.entry.table)) i d }
 {
-    let n = map.table.n;
-    if n < i {
-        return 0;
-    }
-    usize::from(map.table.numbers[(d - 1) * n + (i - 1)])
+    usize::from(map.table.numbers[(d - 1) * map.table.n + (i - 1)])
 }
 
-// Twice the first number of the word from d, and one more where d is 2-sewn, so that the second number is not 0.
+// One number, by which starts are ordered as numbers are: twice the first number of the word from d, and one more where d is 2-sewn, so
+// that the second number is not 0. In a map of dimension 1 none is.
 pub(crate) fn rank(map: Map<'_>, d: usize) -> usize
     requires { IsDart (map_of (given map.table)) d }
     ensures { result ≡ rank_of (map_of (given map.entry.table)) d }
 {
     let first = first_label(d, usize::from(map.back[d - 1]), sewn(map, 1, d));
-    2 * first + usize::from(sewn(map, 2, d) != 0)
+    let second = 1 < map.table.n && sewn(map, 2, d) != 0;
+    2 * first + usize::from(second)
 }
 
 // The least rank of all starts.
@@ -52,7 +52,7 @@ pub(crate) fn least_rank(map: Map<'_>) -> usize
     ensures { LeastRank (map_of (given map.entry.table)) result }
 {
     let mut least = rank(map, 1);
-    for d in 2..=map.table.m {
+    for d in 2..map.table.m + 1 {
         least = least.min(rank(map, d));
     }
     least

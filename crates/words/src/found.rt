@@ -1,4 +1,4 @@
-// What the calls on words find, beside what they write: in a module of its own, since `signature` is a name of `least_word`.
+// What `signature` answers. In a file of its own: the type's name is the function's but for the case of a letter.
 
 // What the signature call finds beside the word in its output: the word's least start and its symmetries.
 #[derive(Clone, Copy, Debug, PartialEq, Eq)]

@@ -16,7 +16,7 @@ use std::cmp::Ordering;
 const FEW_ROWS: usize = 16;
 
 // A start has come out: a lesser word leads from now on, and at a tie the darts that have one label have one word. The least
-// start of the best word goes back.
+// start of the best word is handed back. Start, lead and forest come one by one: they are locals of the run.
 #[tactic(auto, unfolding(crate::specs::Inside::started_at, crate::specs::Sign::over))]
 fn settle(
     side: Ordering,
@@ -58,11 +58,11 @@ fn spell_out(
 {
     let m = map.table.m;
     if rows < m {
-        try_start(map, blank, queue, word, start, m, false);
+        try_start(&map, blank, queue, word, start, m, false);
     }
 }
 
-// The signature under way: the best word so far.
+// The signature under way: the best word so far. Document 01 has an array in a struct's state: this one.
 #[derive(Drop)]
 struct Signing {
     word: [u16; 1020],
@@ -90,18 +90,18 @@ impl Signing {
         let mut lead = [0u16; 1020];
         let mut forest = Forest::new();
         let mut rows = m.min(FEW_ROWS);
-        // 0 is no dart: none leads yet.
+        // 0 is no dart: none leads yet. The word that the definitions give for it is the blank one, so no `Option` is taken apart.
         let mut start = 0;
         for d in 1..m + 1 {
             if passed_over(map, &forest, least, d) {
                 continue;
             }
-            let mut side = try_start(map, blank, &mut queue, &mut self.word, d, rows, false);
+            let mut side = try_start(&map, blank, &mut queue, &mut self.word, d, rows, false);
             // The start agrees with all that is known: it is tried again when the rest is.
             if side.is_eq() && rows < m {
                 spell_out(map, blank, &mut lead, &mut self.word, start, rows);
                 rows = m;
-                side = try_start(map, blank, &mut queue, &mut self.word, d, rows, false);
+                side = try_start(&map, blank, &mut queue, &mut self.word, d, rows, false);
             }
             start = settle(side, m, d, start, &queue, &mut lead, &mut forest);
         }

@@ -1,4 +1,5 @@
-// The match of two maps, and the matching that it shows: dart 1 goes to the least dart of the second map that any takes it to.
+// The match of two maps, and the matching that it shows: dart 1 goes to the least dart of the second map that any takes it to. Its
+// arrays are locals (document 01).
 ghost use Rattle.std.specs.Prelude.{◌≡◌, replicate};
 ghost use Rattle.maps.specs.Shown.{given};
 ghost use Rattle.words.specs.Match.{shown_mismatch, MatchesAs};
@@ -24,6 +25,7 @@ impl Shown for Mismatch {
     fn number_and_place(&self) -> (u32, usize) {
         match *self {
             Mismatch::First(refusal) => refusal.number_and_place(),
+            // `matches` has the like: each error enum shows its own.
             Mismatch::Second(refusal) => {
                 let (number, place) = refusal.number_and_place();
                 (20 + number, place)
@@ -43,8 +45,8 @@ fn first_alike(
     ensures { Sought (given map.entry.table) word.old result queue.new }
 {
     let m = map.table.m;
-    for d in 1..=m {
-        if try_start(map, blank, queue, word, d, m, true).is_eq() {
+    for d in 1..m + 1 {
+        if try_start(&map, blank, queue, word, d, m, true).is_eq() {
             return Some(d);
         }
     }
@@ -81,7 +83,7 @@ pub fn match_maps(first: Table<'_>, second: Table<'_>, output: &mut [u16]) -> Re
         table: first,
         back: &back,
     };
-    try_start(map, &mut blank, &mut queue, &mut word, 1, first.m, false);
+    try_start(&map, &mut blank, &mut queue, &mut word, 1, first.m, false);
     labels::judge(second, Output::Nothing, &mut back, &mut blank.labels).map_err(Mismatch::Second)?;
     if first.n != second.n || first.m != second.m {
         return Err(Mismatch::Unmatched);

@@ -11,6 +11,7 @@ pub(crate) struct Forest {
     ghost lower: { Descends up },
 }
 
+// A dart stays a number, which `requires` bounds: every number from 1 to 1,020 has its place.
 impl Forest {
     // Each dart is a tree of its own.
     #[tactic(auto, using(crate::proofs::Forest::descends_none))]

@@ -1,4 +1,5 @@
-// "Equal to its own signature": each start is compared with the table itself, and left at the first number that differs.
+// "Equal to its own signature": each start is compared with the table itself, and left at the first number that differs. Its arrays
+// are locals (document 01).
 ghost use Rattle.std.specs.Prelude.{◌≡◌, ◌≤◌, ◌*◌, length, take, replicate};
 ghost use Rattle.maps.specs.Given.{map_of};
 ghost use Rattle.maps.specs.Shown.{given};
@@ -33,11 +34,11 @@ fn is_least(map: Map<'_>, blank: &mut Blank, lead: &[u16; 1020], word: &mut [u16
     let first = rank(map, 1);
     let mut queue = [0u16; 1020];
     let mut forest = Forest::new();
-    for d in 2..=m {
+    for d in 2..m + 1 {
         if passed_over(map, &forest, first, d) {
             continue;
         }
-        match try_start(map, blank, &mut queue, word, d, m, true) {
+        match try_start(&map, blank, &mut queue, word, d, m, true) {
             Ordering::Less => return false,
             Ordering::Equal => forest.join_all(&queue[..m], &lead[..m]),
             Ordering::Greater => {}
@@ -53,7 +54,7 @@ fn is_own(map: Map<'_>, blank: &mut Blank) -> bool
     let mut word = [0u16; 1020];
     hold(map.table.numbers, &mut word);
     let mut lead = [0u16; 1020];
-    let first = try_start(map, blank, &mut lead, &mut word, 1, map.table.m, true);
+    let first = try_start(&map, blank, &mut lead, &mut word, 1, map.table.m, true);
     if first.is_ne() {
         return false;
     }

@@ -2,5 +2,5 @@
 use Rattle.std.proofs.Common.{◌≤◌}
 use Rattle.layouts.proofs.list.Given as goal
 
-abbrev pub invariant-loop-turn : goal.invariant-loop-turn
-invariant-loop-turn g l = l.progress.records ≤ l._turn
+abbrev pub invariant-loop : goal.invariant-loop
+invariant-loop g l = l.progress.records ≤ l.counter

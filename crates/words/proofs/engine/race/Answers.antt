@@ -108,94 +108,94 @@ module _ (map : Map) {d rows : ℕ} (r : Ready (given map.table) d rows) where
                 }
 
 pub offset_bounds-labels-d : goal.offset_bounds-labels-d
-offset_bounds-labels-d c = omega (arith, placed c.args.map c.args.d c.requires.ready.dart)
+offset_bounds-labels-d c = omega (arith, placed c.args.map.now c.args.d c.requires.ready.dart)
 
 pub bounds-labels-d : goal.bounds-labels-d
-bounds-labels-d c = omega (arith, placed c.args.map c.args.d c.requires.ready.dart)
+bounds-labels-d c = omega (arith, placed c.args.map.now c.args.d c.requires.ready.dart)
 
 pub overflow_cast-queue : goal.overflow_cast-queue
-overflow_cast-queue c = omega (arith, placed c.args.map c.args.d c.requires.ready.dart)
+overflow_cast-queue c = omega (arith, placed c.args.map.now c.args.d c.requires.ready.dart)
 
 pub labels-init : goal.labels-init
 labels-init c =
-    rw c.requires.blank (serving_start (usable c.args.map).taken c.args.d c.requires.ready.dart c.args.rows c.args.firm c.args.queue.now c.args.word.now c.told-queue)
+    rw c.requires.blank (serving_start (usable c.args.map.now).taken c.args.d c.requires.ready.dart c.args.rows c.args.firm c.args.queue.now c.args.word.now c.told-queue)
 
 pub offset_bounds-queue-k : goal.offset_bounds-queue-k
-offset_bounds-queue-k c = omega (arith, few c.args.map c.requires.ready)
+offset_bounds-queue-k c = omega (arith, few c.args.map.now c.requires.ready)
 
 pub bounds-queue-k : goal.bounds-queue-k
-bounds-queue-k c = omega (arith, few c.args.map c.requires.ready)
+bounds-queue-k c = omega (arith, few c.args.map.now c.requires.ready)
 
 pub overflow_sub-served : goal.overflow_sub-served
 overflow_sub-served c =
-    (placed c.args.map _ (served-dart c.args.map c.requires.ready c.labels.invariant c.told-word c.labels-test.true c.from-served.ensures)).0
+    (placed c.args.map.now _ (served-dart c.args.map.now c.requires.ready c.labels.invariant c.told-word c.labels-test.true c.from-served.ensures)).0
 
 pub bounds-map-served : goal.bounds-map-served
-bounds-map-served c = omega (arith, placed c.args.map _ (served-dart c.args.map c.requires.ready c.labels.invariant c.told-word c.labels-test.true c.from-served.ensures))
+bounds-map-served c = omega (arith, placed c.args.map.now _ (served-dart c.args.map.now c.requires.ready c.labels.invariant c.told-word c.labels-test.true c.from-served.ensures))
 
 pub meet-labelling-requires : goal.meet-labelling-requires
 meet-labelling-requires c =
-    let t = dart-turn c.args.map c.requires.ready c.labels.invariant c.told-word c.labels-test.true in
-    turn_meets t _ (before-is c.args.map c.requires.ready c.labels.invariant c.told-word c.labels-test.true c.from-served.ensures c.from.ensures)
+    let t = dart-turn c.args.map.now c.requires.ready c.labels.invariant c.told-word c.labels-test.true in
+    turn_meets t _ (before-is c.args.map.now c.requires.ready c.labels.invariant c.told-word c.labels-test.true c.from-served.ensures c.from.ensures)
 
 pub overflow_sub-row : goal.overflow_sub-row
-overflow_sub-row c = (placed c.args.map _ (served-dart c.args.map c.requires.ready c.labels.invariant c.told-word c.labels-test.true c.from-served.ensures)).0
+overflow_sub-row c = (placed c.args.map.now _ (served-dart c.args.map.now c.requires.ready c.labels.invariant c.told-word c.labels-test.true c.from-served.ensures)).0
 
 pub overflow_mul-row : goal.overflow_mul-row
 overflow_mul-row c =
-    omega (arith, row_few c.args.map _ (served-dart c.args.map c.requires.ready c.labels.invariant c.told-word c.labels-test.true c.from-served.ensures))
+    omega (arith, row_few c.args.map.now _ (served-dart c.args.map.now c.requires.ready c.labels.invariant c.told-word c.labels-test.true c.from-served.ensures))
 
 pub overflow_add-e-items : goal.overflow_add-e-items
 overflow_add-e-items c =
-    omega (arith, row_few c.args.map _ (served-dart c.args.map c.requires.ready c.labels.invariant c.told-word c.labels-test.true c.from-served.ensures))
+    omega (arith, row_few c.args.map.now _ (served-dart c.args.map.now c.requires.ready c.labels.invariant c.told-word c.labels-test.true c.from-served.ensures))
 
 pub offset_bounds-map-row : goal.offset_bounds-map-row
 offset_bounds-map-row c =
-    omega (arith, row_few c.args.map _ (served-dart c.args.map c.requires.ready c.labels.invariant c.told-word c.labels-test.true c.from-served.ensures))
+    omega (arith, row_few c.args.map.now _ (served-dart c.args.map.now c.requires.ready c.labels.invariant c.told-word c.labels-test.true c.from-served.ensures))
 
 pub slice_bounds-e-items-end : goal.slice_bounds-e-items-end
 slice_bounds-e-items-end c =
-    row_within c.args.map _ (served-dart c.args.map c.requires.ready c.labels.invariant c.told-word c.labels-test.true c.from-served.ensures)
+    row_within c.args.map.now _ (served-dart c.args.map.now c.requires.ready c.labels.invariant c.told-word c.labels-test.true c.from-served.ensures)
 
 pub loop-e-init : goal.loop-e-init
 loop-e-init c =
-    let t = dart-turn c.args.map c.requires.ready c.labels.invariant c.told-word c.labels-test.true in
-    rowing_start t (before-is c.args.map c.requires.ready c.labels.invariant c.told-word c.labels-test.true c.from-served.ensures c.from.ensures) c.meet-labelling.ensures
+    let t = dart-turn c.args.map.now c.requires.ready c.labels.invariant c.told-word c.labels-test.true in
+    rowing_start t (before-is c.args.map.now c.requires.ready c.labels.invariant c.told-word c.labels-test.true c.from-served.ensures c.from.ensures) c.meet-labelling.ensures
 
 pub offset_bounds-e-items-e-index : goal.offset_bounds-e-items-e-index
 offset_bounds-e-items-e-index c =
-    let x-dart = served-dart c.args.map c.requires.ready c.labels.invariant c.told-word c.labels-test.true c.from-served.ensures in
-    omega (arith, c.loop-e-test.true, row_long c.args.map c.from-served.result x-dart, row_few c.args.map c.from-served.result x-dart)
+    let x-dart = served-dart c.args.map.now c.requires.ready c.labels.invariant c.told-word c.labels-test.true c.from-served.ensures in
+    omega (arith, c.loop-e-test.true, row_long c.args.map.now c.from-served.result x-dart, row_few c.args.map.now c.from-served.result x-dart)
 
 pub meet-labelling-requires-in-loop-e : goal.meet-labelling-requires-in-loop-e
 meet-labelling-requires-in-loop-e c =
-    row_meets (number-turn c.args.map c.requires.ready c.labels.invariant c.told-word c.labels-test.true c.from-served.ensures c.loop-e.invariant c.loop-e-test.true) _
-    (number-is c.args.map c.requires.ready c.labels.invariant c.told-word c.labels-test.true c.from-served.ensures c.loop-e.invariant c.loop-e-test.true c.from-in-loop-e.ensures)
+    row_meets (number-turn c.args.map.now c.requires.ready c.labels.invariant c.told-word c.labels-test.true c.from-served.ensures c.loop-e.invariant c.loop-e-test.true) _
+    (number-is c.args.map.now c.requires.ready c.labels.invariant c.told-word c.labels-test.true c.from-served.ensures c.loop-e.invariant c.loop-e-test.true c.from-in-loop-e.ensures)
 
 pub weigh-side-requires : goal.weigh-side-requires
 weigh-side-requires c =
-    let t = number-turn c.args.map c.requires.ready c.labels.invariant c.told-word c.labels-test.true c.from-served.ensures c.loop-e.invariant c.loop-e-test.true in
+    let t = number-turn c.args.map.now c.requires.ready c.labels.invariant c.told-word c.labels-test.true c.from-served.ensures c.loop-e.invariant c.loop-e-test.true in
     record { place = omega (arith, row_place t, c.told-word); fits = met_few c.meet-labelling-in-loop-e.ensures; on = row_on t }
 
 pub overflow_add-p : goal.overflow_add-p
 overflow_add-p c =
-    let t = number-turn c.args.map c.requires.ready c.labels.invariant c.told-word c.labels-test.true c.from-served.ensures c.loop-e.invariant c.loop-e-test.true in
+    let t = number-turn c.args.map.now c.requires.ready c.labels.invariant c.told-word c.labels-test.true c.from-served.ensures c.loop-e.invariant c.loop-e-test.true in
     omega (arith, row_place t, c.told-word)
 
 pub loop-e-preserved : goal.loop-e-preserved
 loop-e-preserved c =
-    rowing_turn (number-turn c.args.map c.requires.ready c.labels.invariant c.told-word c.labels-test.true c.from-served.ensures c.loop-e.invariant c.loop-e-test.true)
-    (number-is c.args.map c.requires.ready c.labels.invariant c.told-word c.labels-test.true c.from-served.ensures c.loop-e.invariant c.loop-e-test.true c.from-in-loop-e.ensures)
+    rowing_turn (number-turn c.args.map.now c.requires.ready c.labels.invariant c.told-word c.labels-test.true c.from-served.ensures c.loop-e.invariant c.loop-e-test.true)
+    (number-is c.args.map.now c.requires.ready c.labels.invariant c.told-word c.labels-test.true c.from-served.ensures c.loop-e.invariant c.loop-e-test.true c.from-in-loop-e.ensures)
     c.meet-labelling-in-loop-e.ensures c.weigh-side.ensures (sym c.leaves.ensures ∙ c.if-leaves.false)
 
 pub labels-preserved : goal.labels-preserved
 labels-preserved c =
-    row-done c.args.map c.requires.ready c.labels.invariant c.told-word c.labels-test.true c.from-served.ensures c.loop-e.invariant c.loop-e-test.false
+    row-done c.args.map.now c.requires.ready c.labels.invariant c.told-word c.labels-test.true c.from-served.ensures c.loop-e.invariant c.loop-e-test.false
 
 pub returns-after-labels : goal.returns-after-labels
-returns-after-labels c = all-judged c.args.map c.requires.ready c.labels.invariant c.told-word c.labels-test.false
+returns-after-labels c = all-judged c.args.map.now c.requires.ready c.labels.invariant c.told-word c.labels-test.false
 
 pub returns-then-leaves : goal.returns-then-leaves
 returns-then-leaves c =
-    row-left c.args.map c.requires.ready c.labels.invariant c.told-word c.labels-test.true c.from-served.ensures c.loop-e.invariant c.loop-e-test.true
+    row-left c.args.map.now c.requires.ready c.labels.invariant c.told-word c.labels-test.true c.from-served.ensures c.loop-e.invariant c.loop-e-test.true
     c.from-in-loop-e.ensures c.meet-labelling-in-loop-e.ensures c.weigh-side.ensures (sym c.leaves.ensures ∙ c.if-leaves.true)

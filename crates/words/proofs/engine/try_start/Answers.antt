@@ -14,7 +14,7 @@ forget-requires c =
     let raced = c.race-course.ensures in
     record {
       holds = raced.holds;
-      inside = λ k low high. placed c.args.map _ (raced.good.of_darts k low (rw (holds_length raced.holds) high));
+      inside = λ k low high. placed c.args.map.now _ (raced.good.of_darts k low (rw (holds_length raced.holds) high));
     }
 
 pub returns : goal.returns
@@ -25,5 +25,5 @@ returns c =
       came = raced.came;
       whole = λ on all-rows.
           let is = raced.whole on all-rows in
-          taken-all _ _ _ _ is (ap length (sym is) ∙ holds_length raced.holds) (labelling_numbers (usable c.args.map).taken _ c.requires.dart).long;
+          taken-all _ _ _ _ is (ap length (sym is) ∙ holds_length raced.holds) (labelling_numbers (usable c.args.map.now).taken _ c.requires.dart).long;
     }

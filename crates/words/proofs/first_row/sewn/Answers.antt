@@ -1,14 +1,8 @@
 -- `words::first_row::sewn` meets its contract: a sewing up to the dimension is read off the table.
-use Rattle.std.proofs.Common.{◌≡◌, ◌-◌, suc, sym, ◌∙◌, arith}
-use Rattle.maps.specs.Given.{map_of}
-use Rattle.maps.proofs.Map.{sew_high}
+use Rattle.std.proofs.Common.{◌≡◌, ◌-◌, suc, ◌∙◌, arith}
 use Rattle.maps.proofs.Given.{in_row, row_sew}
 use Rattle.words.proofs.Usable.{usable, row_few}
 use Rattle.words.proofs.first_row.sewn.Goals as goal
-
-pub returns-then-n-i : goal.returns-then-n-i
-unfolding map_of
-returns-then-n-i c = sym (sew_high _ _ _ c.if-n-i.true)
 
 pub overflow_mul-d : goal.overflow_mul-d
 overflow_mul-d c = omega (arith, row_few c.args.map c.args.d c.requires.dart)

@@ -3,6 +3,7 @@ use Rattle.std.proofs.Common.{◌≡◌, ◌+◌, ◌*◌, true, take, refl, sym
 use Rattle.maps.specs.Map.{IsDart}
 use Rattle.maps.specs.Given.{map_of}
 use Rattle.maps.specs.Shown.{given}
+use Rattle.maps.proofs.Accepted.{darts_most}
 use Rattle.maps.proofs.Least.{Passed, passed_turn, search_hit, search_over}
 use Rattle.words.specs.Words.{yields}
 use Rattle.words.proofs.Usable.{usable}
@@ -14,7 +15,7 @@ use Rattle.words.proofs.matching.first_alike.Goals.{In-loop-d, After-is_eq, Else
 -- the start of a turn is a dart
 dart : (c : In-loop-d) → IsDart (map_of (given c.args.map.table)) c.loop-d.d
 unfolding map_of
-dart c = (omega (arith, c.loop-d.auto.d), c.loop-d-test.true)
+dart c = (omega arith, omega arith)
 
 pub try_start-requires : goal.try_start-requires
 try_start-requires c = seeks_ready (dart (goal.at.try_start-requires c).In-loop-d)
@@ -30,7 +31,7 @@ returns-then-is_eq c =
     let inv = c.loop-d.invariant in
     let tied = c.try_start.ensures.whole (same_stays true _ (sym c.is_eq.ensures ∙ c.if-is_eq.true)) refl in
     record {
-      found = search_hit _ inv.so_far (omega (arith, c.loop-d.auto.d)) c.loop-d-test.true (yielded e ∙ c.if-is_eq.true);
+      found = search_hit _ inv.so_far (omega arith) (omega arith) (yielded e ∙ c.if-is_eq.true);
       whole = λ d is. let same : c.loop-d.d ≡ d = cc in rw (← same) tied;
     }
 
@@ -47,7 +48,7 @@ loop-d-preserved c =
     }
 
 pub returns : goal.returns
-returns c = record { found = search_over _ c.loop-d.invariant.so_far c.loop-d-test.false; whole = λ d is. cc }
+returns c = record { found = search_over _ c.loop-d.invariant.so_far (omega arith); whole = λ d is. cc }
 
-pub returns-else-is_eq : goal.returns-else-is_eq
-returns-else-is_eq c = record { found = search_over _ (missed (goal.at.returns-else-is_eq c).Else-is_eq) (omega arith); whole = λ d is. cc }
+pub overflow_add-d-end : goal.overflow_add-d-end
+overflow_add-d-end c = omega (arith, darts_most (usable c.args.map).shaped.bounds)

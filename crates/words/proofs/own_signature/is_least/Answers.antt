@@ -25,7 +25,7 @@ use Rattle.words.proofs.own_signature.is_least.Goals.{In-loop-d, After-rank-firs
 -- the start of a turn is a dart
 dart : (c : In-loop-d) → IsDart (map_of (given c.args.map.table)) c.loop-d.d
 unfolding map_of
-dart c = (omega (arith, c.loop-d.auto.d), c.loop-d-test.true)
+dart c = (omega arith, omega arith)
 
 pub rank-first-requires : goal.rank-first-requires
 rank-first-requires c = (omega arith, (usable c.args.map).taken.bounds.darts_least)
@@ -133,14 +133,7 @@ won c d none past =
     sym (own_yielded _ _ (passed_misses _ none past) 1 (omega arith, (usable c.args.map).taken.bounds.darts_least) (word_yields _ _ 1 c.requires.first))
 
 pub returns : goal.returns
-returns c = won (goal.at.returns c).After-rank-first _ c.loop-d.invariant.none_less c.loop-d-test.false
+returns c = won (goal.at.returns c).After-rank-first _ c.loop-d.invariant.none_less (omega arith)
 
-pub returns-then-passed_over : goal.returns-then-passed_over
-returns-then-passed_over c =
-    won (goal.at.returns-then-passed_over c).After-rank-first _ (skipped (goal.at.returns-then-passed_over c).Then-passed_over) (omega arith)
-
-pub returns-after-try_start : goal.returns-after-try_start
-returns-after-try_start c =
-    won (goal.at.returns-after-try_start c).After-rank-first _
-    (turned (goal.at.returns-after-try_start c).After-try_start (elim c.match-try_start.branch [ in-Equal w ↦ ap is_lt w.in-Equal.is | in-Greater w ↦ ap is_lt w.in-Greater.is ]))
-    (omega arith)
+pub overflow_add-d-end : goal.overflow_add-d-end
+overflow_add-d-end c = omega (arith, darts_most (usable c.args.map).shaped.bounds)

@@ -18,7 +18,7 @@ bounds-back-e c = omega (arith, sewn_inside c.args.self.shaped c.requires.within
 pub returns-then-back-e-ne0 : goal.returns-then-back-e-ne0
 unfolding map_of
 returns-then-back-e-ne0 c =
-    sewing_clash c.loop-d.invariant c.args.self.shaped.bounds.dim_least c.loop-d-test.true c.sewn-e.ensures c.if-e-ne0.true
+    sewing_clash c.loop-d.invariant c.args.self.shaped.bounds.dim_least (omega arith) c.sewn-e.ensures c.if-e-ne0.true
     (sewn_inside c.args.self.shaped c.requires.within _ _ c.sewn-e.ensures)
     c.if-back-e-ne0.true
 
@@ -33,15 +33,10 @@ unfolding map_of
 loop-d-preserved c =
     let dim = c.args.self.shaped.bounds.dim_least in
     elim c.if-e-ne0.branch [
-      | then-e-ne0+else-back-e-ne0 w ↦ rw w.back-is (sewing_given c.loop-d.invariant dim c.loop-d-test.true c.sewn-e.ensures w.if-e-ne0.true (sewn_inside c.args.self.shaped c.requires.within _ _ c.sewn-e.ensures) w.if-back-e-ne0.false)
-      | else-e-ne0 w ↦ rw w.back-is (sewing_unsewn c.loop-d.invariant dim c.loop-d-test.true c.sewn-e.ensures w.if-e-ne0.false)
+      | then-e-ne0+else-back-e-ne0 w ↦ rw w.back-is (sewing_given c.loop-d.invariant dim (omega arith) c.sewn-e.ensures w.if-e-ne0.true (sewn_inside c.args.self.shaped c.requires.within _ _ c.sewn-e.ensures) w.if-back-e-ne0.false)
+      | else-e-ne0 w ↦ rw w.back-is (sewing_unsewn c.loop-d.invariant dim (omega arith) c.sewn-e.ensures w.if-e-ne0.false)
     ]
 
-pub returns-after-e-ne0 : goal.returns-after-e-ne0
+pub returns : goal.returns
 unfolding map_of
-returns-after-e-ne0 c =
-    let dim = c.args.self.shaped.bounds.dim_least in
-    elim c.if-e-ne0.branch [
-      | then-e-ne0+else-back-e-ne0 w ↦ rw w.back-is (sewing_over (sewing_given c.loop-d.invariant dim c.loop-d-test.true c.sewn-e.ensures w.if-e-ne0.true (sewn_inside c.args.self.shaped c.requires.within _ _ c.sewn-e.ensures) w.if-back-e-ne0.false) dim (omega arith))
-      | else-e-ne0 w ↦ rw w.back-is (sewing_over (sewing_unsewn c.loop-d.invariant dim c.loop-d-test.true c.sewn-e.ensures w.if-e-ne0.false) dim (omega arith))
-    ]
+returns c = sewing_over c.loop-d.invariant c.args.self.shaped.bounds.dim_least (omega arith)

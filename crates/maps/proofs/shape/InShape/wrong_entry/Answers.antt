@@ -22,9 +22,6 @@ pub loop-d-preserved : goal.loop-d-preserved
 unfolding map_of
 loop-d-preserved g c = row_passed (map_of (given c.args.self.table)) g.R.Rule.rule c.args.self.shaped.bounds.dim_least _ c.loop-d.invariant c.in_default.ensures
 
-pub returns-in_default : goal.returns-in_default
+pub returns : goal.returns
 unfolding map_of
-returns-in_default g c =
-    entries_over (map_of (given c.args.self.table)) g.R.Rule.rule c.args.self.shaped.bounds.dim_least _
-    (row_passed (map_of (given c.args.self.table)) g.R.Rule.rule c.args.self.shaped.bounds.dim_least _ c.loop-d.invariant c.in_default.ensures)
-    (omega arith)
+returns g c = entries_over (map_of (given c.args.self.table)) g.R.Rule.rule c.args.self.shaped.bounds.dim_least _ c.loop-d.invariant (omega arith)

@@ -18,7 +18,3 @@ loop-i-preserved g c = (omega arith, passed_turn _ c.loop-i.invariant.1 (sym c.b
 pub returns : goal.returns
 unfolding wrong_sewing map_of
 returns g c = search_over _ c.loop-i.invariant.1 (omega arith)
-
-pub returns-else-breaks : goal.returns-else-breaks
-unfolding wrong_sewing map_of
-returns-else-breaks g c = search_over _ (passed_turn _ c.loop-i.invariant.1 (sym c.breaks.ensures ∙ c.if-breaks.false)) (omega arith)

@@ -3,6 +3,8 @@
 // drawer of more bytes than 1,025 records have print `?`.
 #![tactic(auto)]
 
+ghost use Rattle.std.specs.Prelude.{◌≤◌};
+
 mod cases;
 mod print;
 mod read;
@@ -83,32 +85,48 @@ fn take_bytes(
     Ok(())
 }
 
-// Nothing says that the input ends, so the readings are counted up to a number that no run uses up.
-fn take_all(out: &mut impl Write, input: &mut impl Read, room: &mut Room) -> io::Result<()> {
-    let mut under_way = UnderWay::new();
-    // What one reading gives: a fixed buffer, since the program allocates nothing.
-    let mut bytes = [0u8; 65536];
-    for _ in 0..u64::MAX {
-        let count = input.read(&mut bytes)?;
-        if count == 0 {
-            break;
-        }
-        take_bytes(out, &mut under_way, room, &bytes[..count])?;
-    }
-    // The last line may lack its newline.
-    if !under_way.is_empty() {
-        end_line(out, &under_way, room)?;
-    }
-    Ok(())
-}
-
-// A reading or a writing that fails ends the program with its error.
-fn main(rt: HostRuntime) -> io::Result<()> {
+// Takes what the first reading gave, and all further ones. Nothing says that the input ends, so the readings are counted up to a number
+// that no run uses up. It stays a call: inside `main` the room would be there for an empty input too.
+#[inline(never)]
+fn take_all(
+    out: &mut impl Write,
+    input: &mut impl Read,
+    bytes: &mut [u8; 65536],
+    first: usize,
+) -> io::Result<()>
+    requires { first ≤ 65536 }
+{
     let mut room = Room {
         table: [0; NUMBERS],
         second: [0; NUMBERS],
         list: [0; NUMBERS],
         bytes: [0; BYTES],
     };
-    take_all(&mut io::writer(&rt), &mut rt.reader(), &mut room)
+    let mut under_way = UnderWay::new();
+    take_bytes(out, &mut under_way, &mut room, &bytes[..first])?;
+    for _ in 0..u64::MAX {
+        let count = input.read(bytes)?;
+        if count == 0 {
+            break;
+        }
+        take_bytes(out, &mut under_way, &mut room, &bytes[..count])?;
+    }
+    // The last line may lack its newline.
+    if !under_way.is_empty() {
+        end_line(out, &under_way, &mut room)?;
+    }
+    Ok(())
+}
+
+// A reading or a writing that fails ends the program with its error.
+fn main(rt: HostRuntime) -> io::Result<()> {
+    // What one reading gives: a fixed buffer, since the program allocates nothing.
+    let mut bytes = [0u8; 65536];
+    let input = &mut rt.reader();
+    let first = input.read(&mut bytes)?;
+    // An empty input needs no room for cases, which has 2 MB.
+    if first == 0 {
+        return Ok(());
+    }
+    take_all(&mut io::writer(&rt), input, &mut bytes, first)
 }

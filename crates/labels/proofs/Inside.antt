@@ -7,32 +7,35 @@
 --     darts_few, first_dart          of a table in shape: it has at most 1,020 darts, and dart 1
 --     back_is, row_inside, row_is    β0 of a dart, and its row
 --     unreached                      what has no label in the end is what is not reached
+--     all_labelled                   as many labels as darts: none is without
+--     cleared                        with the labels of the map's darts gone, there is none
 --     first_.., next_.., served_row  while a dart is served: what it is sewn to may be met, and is one try more; till all are tried
 --     Running, running_..            a labelling under way, from its start to its end
 -- Assumes nothing.
 use Prim.Native.Nat.{ℕ, suc, ◌+◌, ◌-◌, ◌*◌, ◌≤◌, ◌<◌}
 use mathlib.Core.Path.{◌≡◌, refl, sym, ap, ◌∙◌}
 use mathlib.Core.List.{List, [], ◌∷◌, ◌++◌}
+use mathlib.Core.Logic.{⊎_elim}
 use native.Mathlib.Omega.{arith}
-use native.Mathlib.Nat.{pos_of_ne-zero}
+use native.Mathlib.Nat.{pos_of_ne-zero, eq-zero-or-pos}
 use native.Mathlib.Numerals.{add-one}
-use borrow.Author.Tests.{eqb-true, eqb-false}
+use borrow.Author.Tests.{ne_eqb, eqb-true, eqb-false}
 use lib.Dec.{eqb}
-use lib.ListN.{length, get_or, set, take, drop, replicate, length-drop, length-set, length-replicate, get_or-replicate}
-use lib.Seq.{get_or-drop, get_or-set_same, get_or-set_other, get_or-take, take-suc-set, length-take-le}
+use lib.ListN.{length, get_or, set, take, drop, replicate, length-drop, length-set, length-replicate, get_or-replicate, replicate-append-replicate}
+use lib.Seq.{ext_get_or, get_or-drop, get_or-set_same, get_or-set_other, get_or-take, take-suc-set, length-take-le}
 use Rattle.maps.specs.Least.{nth}
 use Rattle.maps.specs.Map.{Map, IsDart, sew}
 use Rattle.maps.specs.Accepted.{ToDarts}
 use Rattle.maps.specs.Given.{Given, map_of, Shaped}
 use Rattle.maps.specs.Answer.{backs_of}
-use Rattle.maps.proofs.Least.{Tested, passes, fails, tested, nth-suc, least_cong}
+use Rattle.maps.proofs.Least.{Tested, passes, fails, tested, nth-suc, least_cong, none_least}
 use Rattle.maps.proofs.Accepted.{darts_most}
 use Rattle.maps.proofs.Given.{in_row, row_sew}
 use Rattle.maps.proofs.Answer.{backs_sew}
 use Rattle.labels.specs.Queue.{label_in, visit, tried, serve, served, labelling}
 use Rattle.labels.specs.Judging.{not_reached}
 use Rattle.labels.specs.Inside.{DartsOnce, Labels, Holds, Meets, IsRow, not_labelled}
-use Rattle.labels.proofs.Queue.{label_in_nil, label_in_snoc_new, label_in_snoc_other, visit_nothing, visit_old, visit_new, queue_zero, queue_room, queue_short, grown_length, tried_zero, tried_suc, tried_queue, serve_tried, served_zero, served_suc, served_grown, served_queue, served_labelling}
+use Rattle.labels.proofs.Queue.{label_in_nil, label_in_snoc_new, label_in_snoc_other, visit_nothing, visit_old, visit_new, queue_zero, queue_room, queue_short, grown_length, tried_zero, tried_suc, tried_queue, serve_tried, served_zero, served_suc, served_grown, served_queue, served_labelling, queue_dart, labelling_queue}
 
 module _ {labels queue : List ℕ} {given : ℕ} {q : List ℕ} (h : Holds labels queue given q) where
   pub holds_length : length q ≡ given
@@ -144,6 +147,37 @@ module _ {g : Given} (shaped : Shaped g) where
       rw (length-take-le g.m labels (rw long darts_few))
       (least_cong
       (λ d low high. ap (λ (l : ℕ). eqb l 0) (get_or-take g.m labels (d - 1) 0 (omega arith) ∙ has d low (omega (arith, darts_few)))))
+
+  -- as many labels as darts: no dart is without
+  pub all_labelled : ToDarts (map_of g) → length (labelling (map_of g) 1) ≡ g.m → not_reached (map_of g) ≡ 0
+  unfolding map_of not_reached
+  all_labelled to_darts whole =
+      none_least _ g.m
+      (λ d low high. ne_eqb (label_in (labelling (map_of g) 1) d) 0
+      (λ none. let room = queue_room (labelling_queue (map_of g) to_darts 1 first_dart) d (low, high) none in omega (arith, whole)))
+
+  -- no other dart has a label in the end: with those of the map's darts gone, there is none
+  pub cleared : ToDarts (map_of g) → (labels : List ℕ) → length labels ≡ 1020 → Labels labels (labelling (map_of g) 1) → replicate (length (take g.m labels)) 0 ++ drop g.m labels ≡ replicate 1020 0
+  unfolding map_of
+  cleared to_darts labels long has =
+      rw (length-take-le g.m labels (rw long darts_few))
+      (ap (λ (l : List ℕ). replicate g.m 0 ++ l)
+      (ext_get_or 0 (drop g.m labels) (replicate (1020 - g.m) 0) (length-drop g.m labels ∙ ap (λ (k : ℕ). k - g.m) long ∙ sym (length-replicate {A = ℕ} (1020 - g.m) 0))
+      (λ i below. get_or-drop g.m labels i 0 ∙ none i (rw (length-drop, long) at below) ∙ sym (get_or-replicate {A = ℕ} (1020 - g.m) i 0 0 (rw (length-drop, long) at below))))
+      ∙ replicate-append-replicate g.m (1020 - g.m) 0
+      ∙ ap (λ (k : ℕ). replicate {A = ℕ} k 0) whole)
+    where
+      whole : g.m + (1020 - g.m) ≡ 1020
+      whole = omega (arith, darts_few)
+
+      queue : DartsOnce (map_of g) (labelling (map_of g) 1)
+      queue = labelling_queue (map_of g) to_darts 1 first_dart
+
+      beyond : (d : ℕ) → g.m < d → label_in (labelling (map_of g) 1) d ≡ 0
+      beyond d past = ⊎_elim (λ z. z) (λ pos. absurd (let high = (queue_dart queue d pos).1 in omega arith)) (eq-zero-or-pos (label_in (labelling (map_of g) 1) d))
+
+      none : (i : ℕ) → i < 1020 - g.m → get_or labels (g.m + i) 0 ≡ 0
+      none i below = let back : g.m + i + 1 - 1 ≡ g.m + i = omega arith in rw back at (has (g.m + i + 1) (omega arith) (omega arith)) ∙ beyond (g.m + i + 1) (omega arith)
 
 -- while d is served: what it is sewn to may be met, and is one try more
 module _ {M : Map} (to_darts : ToDarts M) (most : M.darts ≤ 1020) (d : ℕ) {q labels queue : List ℕ} {given : ℕ} where

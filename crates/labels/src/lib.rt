@@ -2,7 +2,7 @@
 // document 01 wants fixed memory.
 #![tactic(auto)]
 
-ghost use Rattle.std.specs.Prelude.{◌≡◌, ◌≤◌, take, replicate};
+ghost use Rattle.std.specs.Prelude.{◌≡◌, ◌≤◌, length, take, replicate};
 ghost use Rattle.maps.specs.Least.{found_at};
 ghost use Rattle.maps.specs.Map.{IsDart, sew};
 ghost use Rattle.maps.specs.Accepted.{ToDarts};
@@ -91,10 +91,11 @@ impl<'a> SewnTable<'a> {
         &self.table.numbers[start..start + self.table.n]
     }
 
-    // The labelling from dart 1, run to its end.
-    fn reach(self, labels: &mut [u16; 1020])
+    // The labelling from dart 1, run to its end, and how many labels it gives.
+    fn reach(self, labels: &mut [u16; 1020]) -> usize
         requires { labels.old ≡ replicate 1020 0 }
-        ensures { Labels labels.new (labelling (map_of (given self.entry.table)) 1) }
+        ensures labels { Labels labels.new (labelling (map_of (given self.entry.table)) 1) }
+        ensures count { result ≡ length (labelling (map_of (given self.entry.table)) 1) }
     {
         let mut queue = [0; 1020];
         let mut labelling = Labelling { given: 0 }.meet(labels, &mut queue, 1);
@@ -105,6 +106,20 @@ impl<'a> SewnTable<'a> {
             labelling = labelling.serve(self, labels, &mut queue, d);
             k += 1;
         }
+        labelling.given
+    }
+
+    // The least dart that has no label from dart 1, of which so many are given. Where they are as many as the darts, each dart has one, and
+    // none is looked for.
+    fn unlabelled(self, count: usize, labels: &[u16; 1020]) -> Option<usize>
+        requires labels { Labels labels.now (labelling (map_of (given self.table)) 1) }
+        requires count { count ≡ length (labelling (map_of (given self.table)) 1) }
+        ensures { result ≡ found_at (not_reached (map_of (given self.entry.table))) }
+    {
+        if count == self.table.m {
+            return None;
+        }
+        not_labelled(&labels[..self.table.m])
     }
 
     // The least dart that dart 1 does not reach. No dart has a label before, and none afterwards.
@@ -113,9 +128,10 @@ impl<'a> SewnTable<'a> {
         ensures least { result ≡ found_at (not_reached (map_of (given self.entry.table))) }
         ensures blank { labels.new ≡ replicate 1020 0 }
     {
-        self.reach(labels);
-        let dart = not_labelled(&labels[..self.table.m]);
-        *labels = [0; 1020];
+        let count = self.reach(labels);
+        let dart = self.unlabelled(count, labels);
+        // No other dart can have one: of a small map most of the array is left as it is.
+        labels[..self.table.m].fill(0);
         dart
     }
 }

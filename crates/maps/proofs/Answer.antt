@@ -10,7 +10,7 @@
 --     answered_as, answered_second        so what other refusals show too, and the verdict on a second map
 --     shape_answered, output_answered, entries_answered, sewing_answered
 --                                         so the verdicts of the rules 1 to 8
---     verdict_of-judged_of                an answer's number and place are those of the verdict that it stands for
+--     verdict_of-judged_of, judged_back   an answer's number and place are those of the verdict that it stands for, and the other way round
 --     ok_accepts, err_refuses             an answer is `Ok` exactly when its verdict accepts
 --     as_refused, as_passed               an answer that has its verdict
 --     as_same                             judges that agree on a table have the same answers
@@ -173,6 +173,12 @@ pub verdict_of-judged_of : {v : Verdict} → Answered shown_refusal v → verdic
 unfolding judged_of accepts accepted
 verdict_of-judged_of (answers_ok is) = rw is refl
 verdict_of-judged_of (answers_err r is) = rw is (simp (refusal_refuses r, refusal_back r))
+
+-- and an answer is the one that its verdict stands for
+pub judged_back : (r : Result Unit Refusal) → judged_of (verdict_of r) ≡ r
+unfolding judged_of accepts accepted
+judged_back (Ok _) = refl
+judged_back (Err r) = simp (refusal_refuses r, refusal_back r)
 
 -- an answer shows each verdict of the rules 1 to 8
 pub shape_answered : (g : Given) → Answered shown_refusal (judge_shape g)

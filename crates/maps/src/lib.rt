@@ -129,11 +129,12 @@ impl InShape<'_> {
         e != 0 && self.sewn(i, self.sewn(j, e)) != d
     }
 
-    // The least sewing of d that breaks a rule. Ranges are half-open: `1..=n` costs more at each turn.
+    // The least sewing of d that breaks a rule. Ranges are half-open: `1..=n` costs more at each turn. By `min` the compiler sees that there
+    // are four turns at most, and writes them out: without it a check of dimension 4 took a third more instructions.
     fn wrong_sewing<R: Rule>(self, d: usize) -> Option<usize>
         ensures { result ≡ found_at (wrong_sewing (map_of (given self.entry.table)) R.rule d) }
     {
-        for i in R::least_sewing()..self.table.n + 1 {
+        for i in R::least_sewing()..self.table.n.min(4) + 1 {
             if R::breaks(self, d, i) {
                 return Some(i);
             }
@@ -171,7 +172,9 @@ impl InShape<'_> {
         None
     }
 
-    // Rules 5 to 8. The array holds zeros before, and afterwards β0 of each dart where they pass.
+    // Rules 5 to 8. The array holds zeros before, and afterwards β0 of each dart where they pass. It stays a call: inside its caller the
+    // compiler knows that n is at most 4, takes the `min` of the searches away, and no longer writes their turns out.
+    #[inline(never)]
     fn judge_entries(self, back: &mut [u16; 1020]) -> Result<(), Refusal>
         requires { back.old ≡ replicate 1020 0 }
         ensures { EntriesJudged (map_of (given self.entry.table)) result back.new }
@@ -254,7 +257,8 @@ impl Rule for Composed {
     }
 
     fn breaks(shape: InShape<'_>, d: usize, j: usize) -> bool {
-        for i in 1..j - 1 {
+        // `min` as in `wrong_sewing`: two turns at most.
+        for i in 1..(j - 1).min(3) {
             if shape.parts(i, j, d) {
                 return true;
             }

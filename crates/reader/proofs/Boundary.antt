@@ -27,7 +27,7 @@ use Rattle.drawer.specs.Shown.{shown_drawer, drawer_verdict}
 use Rattle.drawer.specs.declared.records.Found.{Found}
 use Rattle.drawer.specs.declared.refusal.DrawerRefusal.{DrawerRefusal}
 use Rattle.reader.specs.Boundary.{ShownAs, SignedAs, MatchedAs, FoundAs, FiledAs}
-use Rattle.reader.specs.Inside.{Shows, signed_numbers, found_numbers, filed_numbers}
+use Rattle.reader.specs.Numbers.{Shows, signed_numbers, found_numbers, filed_numbers}
 use Rattle.reader.specs.declared.DuftheimVerdict.{DuftheimVerdict}
 use Rattle.reader.specs.declared.DuftheimSigned.{DuftheimSigned}
 use Rattle.reader.specs.declared.DuftheimFound.{DuftheimFound}

@@ -1,3 +1,3 @@
 -- What the calls of the C boundary promise.
 pub mod Boundary
-pub mod Inside
+pub mod Numbers

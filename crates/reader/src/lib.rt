@@ -9,7 +9,7 @@ ghost use Rattle.words.specs.Sign.{shown_signed};
 ghost use Rattle.drawer.specs.Drawer.{drawer};
 ghost use Rattle.drawer.specs.Answers.{shown_search, shown_filing};
 ghost use Rattle.reader.specs.Boundary.{CheckedAs, SignedAs, MatchedAs, ListJudgedAs, DrawerCheckedAs, FoundAs, FiledAs};
-ghost use Rattle.reader.specs.Inside.{Shows, signed_numbers, found_numbers, filed_numbers};
+ghost use Rattle.reader.specs.Numbers.{Shows, signed_numbers, found_numbers, filed_numbers};
 
 use drawer::{DrawerRefusal, Found, Records};
 use maps::{Refusal, Shown, Table};

@@ -9,6 +9,7 @@
 --     signed_of                the answer that stands for numbers
 --     shown-signed, shown_answer
 --                              an answer's numbers are those of the definition, and all others are 0 in a refused one
+--     signed_back              and every answer is the one that its numbers stand for
 --     signed_only              no second answer fits
 --     signing_shows            they are what the call's lines show
 -- Assumes nothing.
@@ -137,6 +138,12 @@ shown-signed a (answers_err r is) none =
     let back : refusal_at a.number a.place ≡ r = (λ i. refusal_at (number i) (place i)) ∙ refusal_back r in
     let rest = none some in
     simp (ne_eqb a.number 0 some, back) (λ i. record { number = sym number i; place = sym place i; start = sym rest.0 i; symmetries = sym rest.1 i })
+
+-- and every answer is the one that its numbers stand for
+pub signed_back : (r : Result Signature Refusal) → signed_of (shown_signed r) ≡ r
+unfolding signed_of
+signed_back (Ok _) = refl
+signed_back (Err r) = simp (ne_eqb (shown_refusal r).number 0 (λ z. omega (arith, refusal_low r)), refusal_back r)
 
 -- no second answer fits: neither another answer nor another output
 pub signed_only : (g : Given) (out : List ℕ) (r s : Result Signature Refusal) (o p : List ℕ) → SignsAs g out r o → SignsAs g out s p → (r ≡ s) × (o ≡ p)

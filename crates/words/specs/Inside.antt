@@ -68,7 +68,7 @@ pub record Weighed (before after : List ℕ) (p x : ℕ) (side : Ordering) (firm
 unfoldable pub front : Map → ℕ → ℕ → List ℕ
 front M d rows = take (rows * M.dim) (word M d)
 
--- so many rows of a start may be tried: no dart has a label
+-- so many rows of a start may be tried, while no dart has a label (`Blank`, and the clause `blank` of `race`)
 pub record Ready (g : Given) (d rows : ℕ) : Type 0 where
   pub dart : IsDart (map_of g) d
   pub some_rows : rows ≤ g.m

@@ -1,7 +1,6 @@
-use Rattle.std.proofs.Common.{ap, ◌∙◌}
-use Rattle.maps.specs.Least.{found_at}
-use Rattle.labels.proofs.Inside.{unreached}
+use Rattle.labels.proofs.Inside.{cleared}
 use Rattle.labels.proofs.SewnTable.not_reached.Goals as goal
 
-pub returns-clause-least : goal.returns-clause-least
-returns-clause-least c = c.not_labelled-dart.ensures ∙ ap found_at (unreached c.args.self.shaped _ c.reach.array_long c.reach.ensures)
+pub returns-clause-blank : goal.returns-clause-blank
+returns-clause-blank c =
+    rw (c.fill.ensures.after (λ y same. same)) (cleared c.args.self.shaped c.args.self.within c.reach-count.new.labels c.reach-count.array_long c.reach-count.ensures.labels)

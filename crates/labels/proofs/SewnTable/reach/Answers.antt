@@ -1,7 +1,7 @@
 -- Darts are served in the order labelled, until all are.
-use Rattle.std.proofs.Common.{ℕ}
+use Rattle.std.proofs.Common.{ℕ, sym}
 use Rattle.std.proofs.lemmas.List.{length-replicate}
-use Rattle.labels.proofs.Inside.{holds_own, first_dart, meets_first, running_start, running_queue, running_dart, running_turn, running_done}
+use Rattle.labels.proofs.Inside.{holds_length, holds_own, first_dart, meets_first, running_start, running_queue, running_dart, running_turn, running_done}
 use Rattle.labels.proofs.SewnTable.reach.Goals as goal
 
 pub meet-labelling-requires : goal.meet-labelling-requires
@@ -20,5 +20,8 @@ serve-labelling-requires c =
 pub loop-k-preserved : goal.loop-k-preserved
 loop-k-preserved c = running_turn _ c.args.self.within 1 (first_dart c.args.self.shaped) c.loop-k.invariant c.loop-k-test.true c.serve-labelling.ensures
 
-pub returns : goal.returns
-returns c = (running_done _ c.args.self.within 1 (first_dart c.args.self.shaped) c.loop-k.invariant c.loop-k-test.false).label
+pub returns-clause-labels : goal.returns-clause-labels
+returns-clause-labels c = (running_done _ c.args.self.within 1 (first_dart c.args.self.shaped) c.loop-k.invariant c.loop-k-test.false).label
+
+pub returns-clause-count : goal.returns-clause-count
+returns-clause-count c = sym (holds_length (running_done _ c.args.self.within 1 (first_dart c.args.self.shaped) c.loop-k.invariant c.loop-k-test.false))

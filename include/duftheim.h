@@ -50,13 +50,13 @@
 
 /* The stack that each call needs, in bytes, with its own return address. What memcpy and memset need beyond theirs comes on top,
    and so does what an interrupt pushes. */
-#define DUFTHEIM_STACK_CHECK 6392
-#define DUFTHEIM_STACK_JUDGE 6472
-#define DUFTHEIM_STACK_MATCH 12696
-#define DUFTHEIM_STACK_SIGNATURE 14808
-#define DUFTHEIM_STACK_DRAWER_CHECK 16856
-#define DUFTHEIM_STACK_FILE 25096
-#define DUFTHEIM_STACK_SEARCH 25192
+#define DUFTHEIM_STACK_CHECK 6384
+#define DUFTHEIM_STACK_JUDGE 6464
+#define DUFTHEIM_STACK_MATCH 12688
+#define DUFTHEIM_STACK_SIGNATURE 14800
+#define DUFTHEIM_STACK_DRAWER_CHECK 16848
+#define DUFTHEIM_STACK_FILE 25088
+#define DUFTHEIM_STACK_SEARCH 25184
 
 /* Bytes of a record, and records of a full drawer. */
 #define DUFTHEIM_RECORD_SIZE 2048
